@@ -1,2 +1,9 @@
+pub mod Fronts
+pub mod Letters
+pub mod Lexing
+pub mod Numbers
+pub mod Sizes
 pub mod Spans
+pub mod Spelling
 pub mod Tokens
+pub mod Views

@@ -1,9 +1,21 @@
 // The words of a script: its text, taken apart into tokens that borrow their bytes from it.
 // Nothing here knows which token may follow which.
+mod cursors;
+pub mod keywords;
+pub mod letters;
+pub mod numbers;
+pub mod scanners;
+pub mod scanning;
+pub mod sizing;
 pub mod spans;
+pub mod symbols;
+pub mod texts;
 pub mod tokens;
 
+pub use scanners::Scanner;
+pub use sizing::Oversized;
 pub use spans::Span;
+pub use texts::Text;
 pub use tokens::Comparison;
 pub use tokens::Lexeme;
 pub use tokens::Logic;
