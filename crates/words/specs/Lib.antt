@@ -2,8 +2,10 @@ pub mod Fronts
 pub mod Letters
 pub mod Lexing
 pub mod Numbers
+pub mod Reading
 pub mod Sizes
 pub mod Spans
 pub mod Spelling
+pub mod Tallies
 pub mod Tokens
 pub mod Views

@@ -9,12 +9,15 @@ pub mod scanning;
 pub mod sizing;
 pub mod spans;
 pub mod symbols;
+pub mod tallies;
 pub mod texts;
 pub mod tokens;
 
 pub use scanners::Scanner;
 pub use sizing::Oversized;
 pub use spans::Span;
+pub use tallies::Tally;
+pub use tallies::scan;
 pub use texts::Text;
 pub use tokens::Comparison;
 pub use tokens::Lexeme;
