@@ -1,0 +1,14 @@
+-- No line feed stands between the byte and `end`.
+use Prim.Native.Nat.{ℕ, _-_, _≤_, _<_, min}
+use mathlib.Core.Path.{_≡_}
+use lib.ListN.{length, getD}
+use Rattle.excerpt.proofs.line_end.Given as given
+
+abbrev pub Inv-loop-end : given.InvT-loop-end
+Inv-loop-end l =
+    (min (l .byte) (length (l .text)) ≤ l .end)
+    × (l .end ≤ length (l .text))
+    × ((k : ℕ) → min (l .byte) (length (l .text)) ≤ k → k < l .end → getD (l .text) k 0 ≡ 10 → ⊥)
+
+abbrev pub μ-loop-end : given.MeasureT-loop-end
+μ-loop-end l = length (l .text) - l .end
