@@ -57,6 +57,7 @@ module _ {E : Type 0} (is : E → Bool) where
     where
       some-in : {i j : ℕ} → _≡_ {A = Option ℕ} (Some i) (Some j) → i ≡ j
       some-in h = cc
+
       by : (o : Option (Newest E)) (b : Bool) → ((j : ℕ) → positionOf o ≡ Some j → j < length es) → positionOf (newestOr is o b e) ≡ Some k → k < suc (length es)
       by (Some n) b ih h = omega (arith, some-in h, ih (n .position) refl)
       by None true ih h = omega (arith, some-in h)

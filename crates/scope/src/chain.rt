@@ -51,11 +51,19 @@ pub fn find<E: Named>(entries: &[E], starts: &[usize], text: &[u8], name: &[u8])
     while let [outer @ .., start] = begun {
         let from = start_within(*start, left.len());
         if let Some(position) = newest(&left[from..], text, name) {
-            return Some(Place { distance: starts.len() - begun.len(), position, number: from + position });
+            return Some(Place {
+                distance: starts.len() - begun.len(),
+                position,
+                number: from + position,
+            });
         }
         left = &left[..from];
         begun = outer;
     }
     let position = newest(left, text, name)?;
-    Some(Place { distance: starts.len(), position, number: position })
+    Some(Place {
+        distance: starts.len(),
+        position,
+        number: position,
+    })
 }

@@ -12,7 +12,7 @@ abbrev pub Inv-loop-begun : given.InvT-loop-begun
 Inv-loop-begun g l =
     (length (l .begun) ≤ length (l .entry .begun)) × (length (l .left) ≤ length (l .entry .left))
     × (from-inside (length (l .entry .begun) - length (l .begun)) (placeOf (find (λ e. called (g .E·Named .spelling (l .text) e) (l .name)) (cut (reverse (l .begun)) (l .left))))
-       ≡ placeOf (find (λ e. called (g .E·Named .spelling (l .text) e) (l .name)) (cut (reverse (l .entry .begun)) (l .entry .left))))
+    ≡ placeOf (find (λ e. called (g .E·Named .spelling (l .text) e) (l .name)) (cut (reverse (l .entry .begun)) (l .entry .left))))
 
 abbrev pub μ-loop-begun : given.MeasureT-loop-begun
 μ-loop-begun g l = length (l .begun)
