@@ -1,3 +1,3 @@
 mod Fronts
-mod Growing
+pub mod Growing
 pub mod Sames

@@ -1,7 +1,7 @@
 -- The scope chain: nested lists of entries, innermost first, each with its oldest entry first.
 use Prim.Native.Nat.{ℕ, suc, _+_}
 use mathlib.Core.Path.{_≡_}
-use mathlib.Core.Bool.{Bool, true, false, cond}
+use mathlib.Core.Bool.{Bool, true, false, cond, _||_}
 use mathlib.Core.List.{List, [], _∷_, _++_}
 use lib.Dec.{ltb}
 use lib.ListN.{length, take, drop}
@@ -49,6 +49,11 @@ placeOf None = None
 placeOf (Some f) = Some (record { distance = f .distance; position = f .position; number = f .number })
 
 module _ {E : Type 0} (is : E → Bool) where
+  -- some entry of the list is it
+  abbrev pub any : List E → Bool
+  any [] = false
+  any (e ∷ entries) = is e || any entries
+
   -- no entry of the list is it
   pub data Lacks : List E → Type 0 where
     lacks-none : Lacks []

@@ -2,7 +2,6 @@
 use Prim.Native.Nat.{ℕ}
 use mathlib.Core.Bool.{Bool}
 use mathlib.Core.List.{List, [], _∷_, _++_}
-use Rattle.std.specs.shelf.Text.{sameBytes}
 use Rattle.std.specs.declared.option.Option.{Option}
 use Rattle.std.specs.declared.option.Option.the-variants.{Some, None}
 use Rattle.domain.specs.declared.Domain.{Domain}
@@ -18,8 +17,9 @@ use Rattle.scope.specs.Chains.{Found, size, find, Sees, Absent}
 abbrev pub fault : Rule → Place → Fault
 fault r p = record { rule = r; line = p .line; byte = p .byte }
 
+-- a variable; a name that does not lie in the text is none, and is never found
 pub record Variable : Type 0 where
-  pub name : Bytes
+  pub name : Option Bytes
   pub type : ValueType
 
 -- the attributes of each bracket, the nearest first; the variables of the own block, the oldest first; those of the blocks around it, the nearest first
@@ -49,14 +49,14 @@ opened env = record { contexts = env .contexts; own = []; outer = env .own ∷ e
 
 -- with one variable more in the own block
 abbrev pub defining : Bytes → ValueType → Environment → Environment
-defining n t env = record { contexts = env .contexts; own = env .own ++ (record { name = n; type = t } ∷ []); outer = env .outer }
+defining n t env = record { contexts = env .contexts; own = env .own ++ (record { name = Some n; type = t } ∷ []); outer = env .outer }
 
 -- which columns and which variables have the name
 abbrev pub isColumn : Bytes → Column → Bool
 isColumn n c = called (c .name) n
 
 abbrev pub isVariable : Bytes → Variable → Bool
-isVariable n v = sameBytes (v .name) n
+isVariable n v = called (v .name) n
 
 -- what a name stands for: an attribute by the distance of its bracket and its column there, or a variable by its number among all in scope
 pub data Reference : Type 0 where

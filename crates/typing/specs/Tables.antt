@@ -16,6 +16,7 @@ use Rattle.grammar.specs.Tree.{Tuple, Tuple.tupleOf, AtomicType, AtomicType.typ
 use Rattle.schema.specs.Columns.{Column}
 use Rattle.schema.specs.Kinds.{ValueType, ValueType.atom, ValueType.table}
 use Rattle.schema.specs.Sameness.{sameDomain, sameType, SameType}
+use Rattle.scope.specs.Chains.{any}
 use Rattle.typing.specs.Environments.{Variable, isColumn, isVariable}
 
 abbrev pub bytesIn : Name → Bytes
@@ -47,8 +48,7 @@ columnNamed n d = record { name = Some n; domain = d }
 
 -- a column has the name
 abbrev pub has : List Column → Bytes → Bool
-has [] n = false
-has (c ∷ columns) n = isColumn n c || has columns n
+has columns n = any (isColumn n) columns
 
 -- the name is among these
 abbrev pub among : List Bytes → Bytes → Bool
@@ -57,8 +57,7 @@ among (m ∷ rest) n = sameBytes m n || among rest n
 
 -- a variable of the list has the name
 abbrev pub defines : List Variable → Bytes → Bool
-defines [] n = false
-defines (v ∷ rest) n = isVariable n v || defines rest n
+defines variables n = any (isVariable n) variables
 
 -- a name of a column on the left is one of a column on the right; what has no name meets nothing
 abbrev pub meetsIn : List Column → Option Bytes → Bool
