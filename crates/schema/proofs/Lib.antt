@@ -1,0 +1,3 @@
+mod Fronts
+pub mod Growing
+pub mod Sames

@@ -1,0 +1,4 @@
+mod Ends
+mod Cuts
+pub mod Searches
+pub mod Numbers

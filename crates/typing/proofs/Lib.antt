@@ -1,0 +1,4 @@
+pub mod Tests
+pub mod Judging
+pub mod Answering
+mod Exactness

@@ -1,0 +1,6 @@
+use borrow.Author.Needs.{needs}
+use Rattle.typing.proofs.Exactness.{expressions-exact, statements-exact, programs-exact}
+use Rattle.typing.proofs.typing_stands.Needs as need
+
+pub returns : need.returns
+returns c = record { expressions = expressions-exact; statements = statements-exact; programs = programs-exact }

@@ -1,0 +1,6 @@
+pub mod Environments
+pub mod Tables
+pub mod Typing
+pub mod Failing
+pub mod Checker
+pub mod Promise
