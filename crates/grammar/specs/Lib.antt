@@ -1,1 +1,6 @@
+pub mod Numbers
 pub mod Tree
+pub mod Grammar
+pub mod Promise
+pub mod Parts
+pub mod Readers
