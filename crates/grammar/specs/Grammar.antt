@@ -9,7 +9,7 @@ use mathlib.Core.Path.{_≡_}
 use mathlib.Core.Bool.{Bool, true}
 use mathlib.Core.Option.{Option, none, some}
 use lib.IntN.{pos}
-use Rattle.grammar.specs.Numbers.{valueOf}
+use Rattle.words.specs.Numbers.{valueOf}
 use Rattle.words.specs.Tokens.{Place, Bytes, Token, Token._at_, Terminal.word, Terminal.sign, Terminal.domain, Terminal.logic, Terminal.comparison}
 use Rattle.words.specs.Tokens.{Terminal.sum, Terminal.product, Terminal.truth, Terminal.integer, Terminal.string, Terminal.name}
 use Rattle.domain.specs.declared.Domain.{Domain}

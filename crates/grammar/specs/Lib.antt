@@ -1,4 +1,3 @@
-pub mod Numbers
 pub mod Tree
 pub mod Grammar
 pub mod Promise

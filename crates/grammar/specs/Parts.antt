@@ -5,7 +5,7 @@ use mathlib.Core.Bool.{Bool, true, false}
 use mathlib.Core.Option.{Option, none, some}
 use lib.Dec.{eqb}
 use lib.IntN.{pos}
-use Rattle.grammar.specs.Numbers.{valueOf}
+use Rattle.words.specs.Numbers.{valueOf}
 use Rattle.words.specs.Tokens.{Place, Terminal, Token, Token._at_, Terminal.word, Terminal.sign, Terminal.domain, Terminal.logic, Terminal.comparison}
 use Rattle.words.specs.Tokens.{Terminal.sum, Terminal.product, Terminal.truth, Terminal.integer, Terminal.string, Terminal.name, Terminal.broken}
 use Rattle.domain.specs.declared.Domain.the-variants.{Integer}
