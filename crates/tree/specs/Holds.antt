@@ -69,14 +69,14 @@ Chained H ns from last first (x ∷ y ∷ ys) =
 module _ (text : Bytes) where
   -- a name or a string is a part of the text
   abbrev pub HoldsName : Holder Name
-  HoldsName ns from i (named x p) = (from ≡ i) × ((s : Span) × (Says ns i (what.Name s) p) × (partOf s text ≡ Some x))
+  HoldsName ns from i (named x p) = (from ≡ i) × (s : Span) × (Says ns i (what.Name s) p) × (partOf s text ≡ Some x)
 
   abbrev pub HoldsType : Holder AtomicType
   HoldsType ns from i (typed d p) = (from ≡ i) × Says ns i (what.AtomicType d) p
 
   abbrev pub HoldsConstant : Holder Constant
   HoldsConstant ns from i (integerConstant v p) = (from ≡ i) × Says ns i (what.Integer v) p
-  HoldsConstant ns from i (stringConstant x p) = (from ≡ i) × ((s : Span) × (Says ns i (what.Text s) p) × (partOf s text ≡ Some x))
+  HoldsConstant ns from i (stringConstant x p) = (from ≡ i) × (s : Span) × (Says ns i (what.Text s) p) × (partOf s text ≡ Some x)
   HoldsConstant ns from i (truthConstant b p) = (from ≡ i) × Says ns i (what.Truth b) p
 
   abbrev pub HoldsAttribute : Holder Attribute
