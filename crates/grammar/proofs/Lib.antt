@@ -1,0 +1,10 @@
+pub mod Table
+pub mod TablePromise
+pub mod Sound
+pub mod Complete
+pub mod Fuel
+pub mod Machine
+pub mod Place
+pub mod Exact
+pub mod Same
+pub mod Promise
