@@ -7,5 +7,9 @@ use fault::Rule;
 pub fn refuse(rule: Rule) -> Fault
     ensures { λ r. ⌜ r ≡ refusedBy rule ⌝ }
 {
-    Fault { rule, line: 0, byte: 0 }
+    Fault {
+        rule,
+        line: 0,
+        byte: 0,
+    }
 }
