@@ -1,0 +1,7 @@
+pub mod Decoding
+pub mod Searching
+pub mod Keeping
+pub mod Growing
+pub mod Settling
+pub mod Questions
+pub mod Adding

@@ -1,0 +1,3 @@
+pub mod Beginnings
+pub mod Fields
+pub mod Turning
