@@ -1,0 +1,3 @@
+mod Fronts
+mod Growing
+pub mod Sames

@@ -1,0 +1,4 @@
+pub mod Building
+pub mod Columns
+pub mod Kinds
+pub mod Sameness
