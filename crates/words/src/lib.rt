@@ -1,18 +1,19 @@
 // The words of a script: its text, taken apart into tokens that borrow their bytes from it.
 // Nothing here knows which token may follow which.
 mod cursors;
-pub mod keywords;
-pub mod letters;
+mod keywords;
+mod letters;
 pub mod numbers;
 pub mod scanners;
-pub mod scanning;
+mod scanning;
 pub mod sizing;
 pub mod spans;
-pub mod symbols;
+mod symbols;
 pub mod tallies;
 pub mod texts;
 pub mod tokens;
 
+pub use numbers::value_within;
 pub use scanners::Scanner;
 pub use sizing::Oversized;
 pub use spans::Span;

@@ -2,11 +2,12 @@
 ghost use Prim.Native.Nat.{_+_, _≤_, _<_};
 ghost use mathlib.Core.Path.{_≡_};
 ghost use lib.ListN.{length, drop};
-ghost use Rattle.words.specs.Letters.{run, nameByte, digit};
+ghost use mathlib.Core.Bool.{cond};
+ghost use Rattle.words.specs.Letters.{run, nameByte, digit, feed, blank};
 ghost use Rattle.words.specs.Lexing.{start, further, skipped, wordOrName, symbolTerminal, nameAt, integerAt, stringAt, signAt, tokenAt, next as nextToken};
 ghost use Rattle.words.specs.Sizes.{textBytes};
 ghost use Rattle.words.specs.Spelling.{keywordOf};
-ghost use Rattle.std.specs.declared.option.Option.the-variants.{Some};
+ghost use Rattle.std.specs.declared.option.Option.the-variants.{Some, None};
 ghost use Rattle.words.specs.Views.{spotOf, standing, Small, spoken, foundAt, Onward, answer, Moved};
 use crate::cursors::Cursor;
 use crate::cursors::Found;
@@ -29,6 +30,17 @@ use fault::limits::INTEGER_MAX;
 use fault::limits::NAME_BYTES;
 use fault::limits::STRING_BYTES;
 
+// How many lines a separator ends; nothing for a byte that is no separator.
+fn lines_ended(b: u8) -> Option<u32>
+    ensures { λ r. ⌜ r ≡ cond (feed b) (Some 1) (cond (blank b) (Some 0) None) ⌝ }
+{
+    match b {
+        b'\n' => Some(1),
+        b' ' | b'\t' | b'\r' => Some(0),
+        _ => None,
+    }
+}
+
 // Passes the separators, and counts the lines.
 fn skip<'a>(at: Cursor<'a>) -> Cursor<'a>
     requires { ⌜ Small (spotOf at) ⌝ }
@@ -40,11 +52,10 @@ fn skip<'a>(at: Cursor<'a>) -> Cursor<'a>
     let mut line = at.line;
     let mut byte = at.byte;
     while let [b, after @ ..] = rest {
-        match *b {
-            b'\n' => line += 1,
-            b' ' | b'\t' | b'\r' => {}
-            _ => break,
-        }
+        let Some(ended) = lines_ended(*b) else {
+            break;
+        };
+        line += ended;
         byte += 1;
         rest = after;
     }

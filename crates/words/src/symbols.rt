@@ -3,7 +3,7 @@ ghost use Prim.Native.Nat.{_<_};
 ghost use mathlib.Core.Path.{_≡_};
 ghost use lib.ListN.{length};
 ghost use Rattle.std.specs.Options.{Cases};
-ghost use Rattle.words.specs.Spelling.{symbolAt, singleOf};
+ghost use Rattle.words.specs.Spelling.{symbolAt, pairOf, singleOf};
 ghost use Rattle.words.specs.Fronts.{frontOf};
 use crate::tokens::Comparison;
 use crate::tokens::Product;
@@ -25,6 +25,20 @@ pub struct Signed<'a> {
     pub rest: &'a [u8],
 }
 
+// Two bytes that are one sign.
+fn pair(a: u8, b: u8) -> Option<Symbol>
+    ensures { λ r. ⌜ r ≡ pairOf a b ⌝ }
+{
+    match (a, b) {
+        (b'=', b'=') => Some(Symbol::Comparison(Comparison::Equal)),
+        (b'!', b'=') => Some(Symbol::Comparison(Comparison::NotEqual)),
+        (b'>', b'=') => Some(Symbol::Comparison(Comparison::GreaterEqual)),
+        (b'<', b'=') => Some(Symbol::Comparison(Comparison::LessEqual)),
+        _ => None,
+    }
+}
+
+// One byte that is a sign.
 fn single(b: u8) -> Option<Symbol>
     ensures { λ r. ⌜ r ≡ singleOf b ⌝ }
 {
@@ -48,29 +62,18 @@ fn single(b: u8) -> Option<Symbol>
     }
 }
 
-// The sign that the bytes begin with, and the bytes behind it.
+// The sign that the bytes begin with, and the bytes behind it: two bytes and the rest first, then one and the rest.
 pub fn take_symbol<'a>(text: &'a [u8]) -> Option<Signed<'a>>
     ensures shorter { λ r. ⌜ Cases r (Unit {0}) (λ s. length (now (s .rest)) < length (now (text .entry))) ⌝ }
     ensures value { λ r. ⌜ frontOf r ≡ symbolAt (now (text .entry)) ⌝ }
 {
+    if let [a, b, rest @ ..] = text {
+        if let Some(symbol) = pair(*a, *b) {
+            return Some(Signed { symbol, rest });
+        }
+    }
     match text {
-        [b'=', b'=', rest @ ..] => Some(Signed {
-            symbol: Symbol::Comparison(Comparison::Equal),
-            rest,
-        }),
-        [b'!', b'=', rest @ ..] => Some(Signed {
-            symbol: Symbol::Comparison(Comparison::NotEqual),
-            rest,
-        }),
-        [b'>', b'=', rest @ ..] => Some(Signed {
-            symbol: Symbol::Comparison(Comparison::GreaterEqual),
-            rest,
-        }),
-        [b'<', b'=', rest @ ..] => Some(Signed {
-            symbol: Symbol::Comparison(Comparison::LessEqual),
-            rest,
-        }),
-        [b, rest @ ..] => match single(*b) {
+        [a, rest @ ..] => match single(*a) {
             Some(symbol) => Some(Signed { symbol, rest }),
             None => None,
         },

@@ -1,27 +1,15 @@
--- Each arm: the text is the bytes of the pattern and the rest.
+-- The text is the bytes of the pattern and the rest.
 use native.Mathlib.Omega.{arith}
 use Rattle.std.proofs.shelf.Ways.{tells}
 use Rattle.words.proofs.Cuts.{cut-one, cut-two}
 use Rattle.words.proofs.symbols.take_symbol.Needs as need
 
-pub returns-in-61 : need.returns-in-61
-returns-in-61 c =
-    let s = c .args .text .now in record { shorter = grind (arith, tells, cut-one s, cut-two s); value = grind (arith, tells, cut-one s, cut-two s) }
-
-pub returns-in-33 : need.returns-in-33
-returns-in-33 c =
-    let s = c .args .text .now in record { shorter = grind (arith, tells, cut-one s, cut-two s); value = grind (arith, tells, cut-one s, cut-two s) }
-
-pub returns-in-62 : need.returns-in-62
-returns-in-62 c =
-    let s = c .args .text .now in record { shorter = grind (arith, tells, cut-one s, cut-two s); value = grind (arith, tells, cut-one s, cut-two s) }
-
-pub returns-in-60 : need.returns-in-60
-returns-in-60 c =
-    let s = c .args .text .now in record { shorter = grind (arith, tells, cut-one s, cut-two s); value = grind (arith, tells, cut-one s, cut-two s) }
-
 pub returns-in-Some : need.returns-in-Some
 returns-in-Some c =
     let s = c .args .text .now in
-    let e = c .single .ensures in
-    record { shorter = grind (arith, tells, cut-one s); value = grind (arith, tells, cut-one s, cut-two s, e, c .in-Some .is) }
+    record { shorter = grind (arith, tells, cut-two s); value = grind (arith, tells, cut-two s, c .pair .ensures, c .in-Some .is) }
+
+pub returns-in-Some-single : need.returns-in-Some-single
+returns-in-Some-single c =
+    let s = c .args .text .now in
+    record { shorter = grind (arith, tells, cut-one s); value = grind (arith, tells, cut-one s, cut-two s, c .single .ensures, c .in-Some-single .is) }
