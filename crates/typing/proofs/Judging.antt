@@ -228,12 +228,16 @@ judge env (joined p a c b) =
     apart : (cs ds : List Column) → Typed env a (table cs) → Typed env b (table ds) → (f : Fault) → Apart cs ds p f → Fails env (joined p a c b) f
     apart cs ds tc td f (crowded many) = joined-count tc td many
     apart cs ds tc td f (common few both) = joined-names tc td few both
+
     inner-fails : (cs ds : List Column) → Typed env a (table cs) → Typed env b (table ds) → {all : List Column} → Together cs ds all → {f : Fault} → Fails (inside all env) c f → Fails env (joined p a c b) f
     inner-fails cs ds tc td (in-one few apart) x = joined-inner tc td few apart x
+
     inner-type : (cs ds : List Column) → Typed env a (table cs) → Typed env b (table ds) → {all : List Column} → Together cs ds all → {t : ValueType} → Typed (inside all env) c t → Not (t ≡ atom Boolean) → Fails env (joined p a c b) (fault OperandMismatch p)
     inner-type cs ds tc td (in-one few apart) x no-so = joined-type tc td few apart x no-so
+
     inner-typed : (cs ds : List Column) → Typed env a (table cs) → Typed env b (table ds) → {all : List Column} → Together cs ds all → Typed (inside all env) c (atom Boolean) → Judged (Typed env (joined p a c b)) (Fails env (joined p a c b)) (Ok (table all))
     inner-typed cs ds tc td (in-one few apart) x = judged-good (joined-typed tc td few apart x)
+
     left-atom : (u : ValueType) → Typed env b u → (f : Fault) → NoTable (Typed env a) p f → Fails env (joined p a c b) f
     left-atom u tb f (no-table h) = joined-left-atom h tb
 
@@ -254,6 +258,7 @@ judge env (projected p names e) =
   where
     of-listed : (cs : List Column) → Typed env e (table cs) → {left : List Column} → Projection cs names left → Judged (Typed env (projected p names e)) (Fails env (projected p names e)) (Ok (table left))
     of-listed cs tc (projection-of l) = judged-good (projected-typed tc l)
+
     no-atom : (f : Fault) → NoTable (Typed env e) p f → Fails env (projected p names e) f
     no-atom f (no-table h) = projected-atom h
 judge env (renamed p names e) =
@@ -263,9 +268,11 @@ judge env (renamed p names e) =
   where
     of-renamed : (cs : List Column) → Typed env e (table cs) → {fresh : List Column} → Renaming cs names fresh → Judged (Typed env (renamed p names e)) (Fails env (renamed p names e)) (Ok (table fresh))
     of-renamed cs tc (renaming-of many l) = judged-good (renamed-typed tc many l)
+
     not-renamed : (cs : List Column) → Typed env e (table cs) → (f : Fault) → NoRenaming cs names p f → Fails env (renamed p names e) f
     not-renamed cs tc f (other-count no-so) = renamed-count tc no-so
     not-renamed cs tc f (other-names many m) = renamed-names tc many m
+
     no-atom : (f : Fault) → NoTable (Typed env e) p f → Fails env (renamed p names e) f
     no-atom f (no-table h) = renamed-atom h
 judge env (selected p c e) =
@@ -319,12 +326,16 @@ judge env (extended p (typed d r) (named n q) x e) =
     no-longer : (cs : List Column) → Typed env e (table cs) → (f : Fault) → NoLonger cs n p q f → Fails env (extended p (typed d r) (named n q) x e) f
     no-longer cs tc f (no-room many) = extended-count tc many
     no-longer cs tc f (old-name few old) = extended-name tc few old
+
     inner-fails : (cs : List Column) → Typed env e (table cs) → {more : List Column} → Longer cs n d more → {f : Fault} → Fails (inside cs env) x f → Fails env (extended p (typed d r) (named n q) x e) f
     inner-fails cs tc (at-the-end few new) y = extended-inner tc few new y
+
     inner-type : (cs : List Column) → Typed env e (table cs) → {more : List Column} → Longer cs n d more → {t : ValueType} → Typed (inside cs env) x t → Not (t ≡ atom d) → Fails env (extended p (typed d r) (named n q) x e) (fault OperandMismatch p)
     inner-type cs tc (at-the-end few new) y no-so = extended-type tc few new y no-so
+
     inner-typed : (cs : List Column) → Typed env e (table cs) → {more : List Column} → Longer cs n d more → Typed (inside cs env) x (atom d) → Judged (Typed env (extended p (typed d r) (named n q) x e)) (Fails env (extended p (typed d r) (named n q) x e)) (Ok (table more))
     inner-typed cs tc (at-the-end few new) y = judged-good (extended-typed tc few new y)
+
     no-atom : (f : Fault) → NoTable (Typed env e) p f → Fails env (extended p (typed d r) (named n q) x e) f
     no-atom f (no-table h) = extended-atom h
 
