@@ -1,3 +1,3 @@
-mod Fronts
+pub mod Fronts
 pub mod Growing
 pub mod Sames

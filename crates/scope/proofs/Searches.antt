@@ -3,9 +3,10 @@ use Prim.Native.Nat.{ℕ, suc, _+_}
 use mathlib.Core.Path.{_≡_, refl, sym, ap, ap₂, subst, _∙_}
 use mathlib.Core.Bool.{Bool, true, false, _||_}
 use mathlib.Core.List.{List, [], _∷_, _++_, map}
-use lib.ListN.{length}
+use native.Mathlib.Omega.{arith}
+use lib.ListN.{length, getD}
 use Rattle.std.specs.Options.{isSome}
-use Rattle.std.proofs.shelf.Lists.{length-map}
+use Rattle.std.proofs.shelf.Lists.{length-map, getD-at}
 use Rattle.std.specs.declared.option.Option.{Option}
 use Rattle.std.specs.declared.option.Option.the-variants.{Some, None}
 use Rattle.scope.specs.Chains.{Newest, positionOf, Found, further, size, any, newestOf, newestOr, find, findOr, Search}
@@ -55,6 +56,18 @@ module _ {E : Type 0} (is : E → Bool) where
   absent-find absent-none = refl
   absent-find (absent-more lacks absent) = rw (lacks-newest lacks, absent-find absent) refl
 
+  -- The newest entry stands at its position.
+  pub newest-entry : (es : List E) (w : Newest E) → newestOf is es ≡ Some w → (d : E) → getD es (w .position) d ≡ w .entry
+  newest-entry es w h d = by (subst (Latest es) h (latest-is es)) refl
+    where
+      some-in : {x y : Newest E} → _≡_ {A = Option (Newest E)} (Some x) (Some y) → x ≡ y
+      some-in h = cc
+
+      by : {o : Option (Newest E)} → Latest es o → o ≡ Some w → getD es (w .position) d ≡ w .entry
+      by (latest-none lacks) e = let z : _≡_ {A = ℕ} 0 1 = cc in absurd (omega arith)
+      by (latest older x newer parts it lacks) e =
+          ap (λ n. getD es (n .position) d) (sym (some-in e)) ∙ ap (λ l. getD l (length older) d) parts ∙ getD-at older x newer d (length older) refl ∙ ap (λ n. n .entry) (some-in e)
+
   -- A list has one exactly if a newest one is found.
   pub any-newest : (es : List E) → any is es ≡ isSome (newestOf is es)
   any-newest [] = refl
@@ -96,11 +109,11 @@ foundAs f None = None
 foundAs f (Some x) = Some (record { entry = f (x .entry); distance = x .distance; position = x .position; number = x .number })
 
 module _ {A B : Type 0} (f : A → B) (is : B → Bool) where
-  abbrev newestAs : Option (Newest A) → Option (Newest B)
+  abbrev pub newestAs : Option (Newest A) → Option (Newest B)
   newestAs None = None
   newestAs (Some n) = Some (record { entry = f (n .entry); position = n .position })
 
-  newest-map : (es : List A) → newestOf is (map f es) ≡ newestAs (newestOf (λ a. is (f a)) es)
+  pub newest-map : (es : List A) → newestOf is (map f es) ≡ newestAs (newestOf (λ a. is (f a)) es)
   newest-map [] = refl
   newest-map (e ∷ es) = ap (λ o. newestOr is o (is (f e)) (f e)) (newest-map es) ∙ by (newestOf (λ a. is (f a)) es) (is (f e))
     where

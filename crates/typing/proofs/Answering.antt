@@ -42,7 +42,7 @@ use Rattle.typing.specs.Failing.{Fails.updated-operand, Fails.updated-atom, Fa
 use Rattle.typing.specs.Failing.{Misdeclared, Misdeclared.declared-twice, Misdeclared.declared-crowded, Misdeclared.declared-later, Misdefined, Misdefined.defined-twice, Misdefined.defined-crowded, Misdefined.defined-later, Misspecified, Misspecified.specifier-fails, Misspecified.specifier-type}
 use Rattle.typing.specs.Failing.{Invalid, Invalid.define-type, Invalid.define-names, Invalid.assign-name, Invalid.assign-expression, Invalid.assign-type, Invalid.ifThen-test, Invalid.ifThen-type, Invalid.ifThen-block, Invalid.ifThenElse-test, Invalid.ifThenElse-type, Invalid.ifThenElse-block, Invalid.ifThenElse-other}
 use Rattle.typing.specs.Failing.{Invalid.whileDo-test, Invalid.whileDo-type, Invalid.whileDo-block, Invalid.readInto-specifier, Invalid.readInto-name, Invalid.writeOut-specifier, Invalid.writeOut-expression, InvalidAll, InvalidAll.first-invalid, InvalidAll.later-invalid, InvalidBlock, InvalidBlock.block-invalid, Wrong, Wrong.program-wrong}
-use Rattle.typing.specs.Checker.{Answer, bind, ask, orAbsent, columnsOf, listed, distinct, fitting, check, attributesFrom, declare, defineAll, specify, test, checkStatement, checkStatements, checkBlock, checkProgram}
+use Rattle.typing.specs.Checker.{Answer, bind, ask, orAbsent, columnsOf, listed, distinct, fitting, together, withColumn, projection, renamings, check, attributesFrom, declare, defineAll, specify, test, checkStatement, checkStatements, checkBlock, checkProgram}
 use Rattle.typing.proofs.Tests.{not-true, not-false, refutes, refuted, leb-true, leb-false, ltb-true, ltb-false, leb-le, leb-lt, ltb-lt, ltb-le, eqb-is, is-eqb, atom-is, is-atom, atoms-are, are-atoms, comparable-is, is-comparable, domains-are, are-domains}
 
 -- What a name stands for is what the search answers.
@@ -88,7 +88,7 @@ misfitting-answer (misfits-later h m) = rw (are-domains h) (misfitting-answer m)
 
 -- Expressions.
 pub typed-answer : {env : Environment} {e : Expression} {t : ValueType} → Typed env e t → check env e ≡ Ok t
-unfolding check bind ask columnsOf orAbsent
+unfolding check bind ask columnsOf orAbsent together withColumn projection renamings
 typed-answer (name-typed h) = rw (refers-resolve h) refl
 typed-answer literal-typed = refl
 typed-answer (tuples-typed few fits) = rw (leb-true _ _ few, fitting-answer fits) refl
@@ -109,7 +109,7 @@ typed-answer (updated-typed {n = n} {f = f} e s x) = rw (typed-answer e, sees-fi
 typed-answer (extended-typed {d = d} e few new x) = rw (typed-answer e, ltb-true _ _ few, new, typed-answer x, domain-same d) refl
 
 pub fails-answer : {env : Environment} {e : Expression} {f : Fault} → Fails env e f → check env e ≡ Err f
-unfolding check bind ask columnsOf orAbsent
+unfolding check bind ask columnsOf orAbsent together withColumn projection renamings
 fails-answer (name-unknown h) = rw (unknown-resolve h) refl
 fails-answer (tuples-count many) = rw (leb-false _ _ many) refl
 fails-answer (tuples-misfit few m) = rw (leb-true _ _ few, misfitting-answer m) refl

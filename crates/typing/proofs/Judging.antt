@@ -43,7 +43,7 @@ use Rattle.typing.specs.Failing.{Fails.updated-operand, Fails.updated-atom, Fa
 use Rattle.typing.specs.Failing.{Misdeclared, Misdeclared.declared-twice, Misdeclared.declared-crowded, Misdeclared.declared-later, Misdefined, Misdefined.defined-twice, Misdefined.defined-crowded, Misdefined.defined-later, Misspecified, Misspecified.specifier-fails, Misspecified.specifier-type}
 use Rattle.typing.specs.Failing.{Invalid, Invalid.define-type, Invalid.define-names, Invalid.assign-name, Invalid.assign-expression, Invalid.assign-type, Invalid.ifThen-test, Invalid.ifThen-type, Invalid.ifThen-block, Invalid.ifThenElse-test, Invalid.ifThenElse-type, Invalid.ifThenElse-block, Invalid.ifThenElse-other}
 use Rattle.typing.specs.Failing.{Invalid.whileDo-test, Invalid.whileDo-type, Invalid.whileDo-block, Invalid.readInto-specifier, Invalid.readInto-name, Invalid.writeOut-specifier, Invalid.writeOut-expression, InvalidAll, InvalidAll.first-invalid, InvalidAll.later-invalid, InvalidBlock, InvalidBlock.block-invalid, Wrong, Wrong.program-wrong}
-use Rattle.typing.specs.Checker.{Answer, bind, ask, orAbsent, columnsOf, listed, distinct, fitting, check, attributesFrom, declare, defineAll, specify, test, checkStatement, checkStatements, checkBlock, checkProgram}
+use Rattle.typing.specs.Checker.{Answer, bind, ask, orAbsent, columnsOf, listed, distinct, fitting, together, withColumn, projection, renamings, check, attributesFrom, declare, defineAll, specify, test, checkStatement, checkStatements, checkBlock, checkProgram}
 use Rattle.typing.proofs.Tests.{not-true, not-false, refutes, refuted, leb-true, leb-false, ltb-true, ltb-false, leb-le, leb-lt, ltb-lt, ltb-le, eqb-is, is-eqb, atom-is, is-atom, atoms-are, are-atoms, comparable-is, is-comparable, domains-are, are-domains}
 
 -- An answer that is right: its value is good, or its fault is the one to report.
@@ -125,6 +125,57 @@ judge-fitting ds (tupleOf cs p ∷ rest) =
     asked (sameDomains (map domainOf cs) ds) _ (λ h. misfits-here (refutes are-domains h)) λ h.
     passed (judge-fitting ds rest) (λ _ l. fitting-more (domains-are _ _ h) l) (λ f m. misfits-later (domains-are _ _ h) m)
 
+-- What an operator makes of columns.
+
+data Together (cs ds : List Column) : List Column → Type 0 where
+  in-one : length cs + length ds ≤ columns → meet cs ds ≡ false → Together cs ds (cs ++ ds)
+
+data Apart (cs ds : List Column) (p : Place) : Fault → Type 0 where
+  crowded : columns < length cs + length ds → Apart cs ds p (fault TooMany p)
+  common : length cs + length ds ≤ columns → meet cs ds ≡ true → Apart cs ds p (fault RepeatedName p)
+
+judge-together : (cs ds : List Column) (p : Place) → Judged (Together cs ds) (Apart cs ds p) (together cs ds p)
+unfolding together
+judge-together cs ds p =
+    asked (leb (length cs + length ds) columns) _ (λ h. crowded (leb-lt _ _ h)) λ few.
+    asked (not (meet cs ds)) _ (λ h. common (leb-le _ _ few) (not-false _ h)) λ apart.
+    judged-good (in-one (leb-le _ _ few) (not-true _ apart))
+
+data Longer (cs : List Column) (n : Bytes) (d : Domain) : List Column → Type 0 where
+  at-the-end : length cs < columns → has cs n ≡ false → Longer cs n d (cs ++ (columnNamed n d ∷ []))
+
+data NoLonger (cs : List Column) (n : Bytes) (p q : Place) : Fault → Type 0 where
+  no-room : columns ≤ length cs → NoLonger cs n p q (fault TooMany p)
+  old-name : length cs < columns → has cs n ≡ true → NoLonger cs n p q (fault RepeatedName q)
+
+judge-column : (cs : List Column) (n : Bytes) (d : Domain) (p q : Place) → Judged (Longer cs n d) (NoLonger cs n p q) (withColumn cs n d p q)
+unfolding withColumn
+judge-column cs n d p q =
+    asked (ltb (length cs) columns) _ (λ h. no-room (ltb-le _ _ h)) λ few.
+    asked (not (has cs n)) _ (λ h. old-name (ltb-lt _ _ few) (not-false _ h)) λ new.
+    judged-good (at-the-end (ltb-lt _ _ few) (not-true _ new))
+
+data Projection (cs : List Column) (names : List Name) : List Column → Type 0 where
+  projection-of : Listed cs [] names → Projection cs names (kept (map bytesIn names) cs)
+
+judge-projection : (cs : List Column) (names : List Name) → Judged (Projection cs names) (Mislisted cs [] names) (projection cs names)
+unfolding projection
+judge-projection cs names = after (judge-listed cs [] names) (λ f m. m) λ _ l. judged-good (projection-of l)
+
+data Renaming (cs : List Column) (names : List Name) : List Column → Type 0 where
+  renaming-of : length names ≡ length cs → Distinct [] names → Renaming cs names (renaming (map bytesIn names) cs)
+
+data NoRenaming (cs : List Column) (names : List Name) (p : Place) : Fault → Type 0 where
+  other-count : Not (length names ≡ length cs) → NoRenaming cs names p (fault OperandMismatch p)
+  other-names : {f : Fault} → length names ≡ length cs → Repeats [] names f → NoRenaming cs names p f
+
+judge-renaming : (cs : List Column) (names : List Name) (p : Place) → Judged (Renaming cs names) (NoRenaming cs names p) (renamings cs names p)
+unfolding renamings
+judge-renaming cs names p =
+    asked (eqb (length names) (length cs)) _ (λ h. other-count (refutes (is-eqb _ _) h)) λ h.
+    after (judge-distinct [] names) (λ f m. other-names (eqb-is _ _ h) m) λ _ l.
+    judged-good (renaming-of (eqb-is _ _ h) l)
+
 -- Expressions.
 pub judge : (env : Environment) (e : Expression) → Judged (Typed env e) (Fails env e) (check env e)
 unfolding check
@@ -169,12 +220,24 @@ judge env (joined p a c b) =
     after (judge env b) (λ f x. joined-right ta x) λ u tb.
     after (a-table (Typed env a) t p ta) (λ f x. left-atom u tb f x) λ cs tc.
     after (a-table (Typed env b) u p tb) (λ f x. right-atom cs tc f x) λ ds td.
-    asked (leb (length cs + length ds) columns) _ (λ h. joined-count tc td (leb-lt _ _ h)) λ few.
-    asked (not (meet cs ds)) _ (λ h. joined-names tc td (leb-le _ _ few) (not-false _ h)) λ apart.
-    after (judge (inside (cs ++ ds) env) c) (λ f x. joined-inner tc td (leb-le _ _ few) (not-true _ apart) x) λ v tv.
-    asked (isAtom Boolean v) _ (λ h. joined-type tc td (leb-le _ _ few) (not-true _ apart) tv (refutes (is-atom Boolean) h)) λ h.
-    judged-good (joined-typed tc td (leb-le _ _ few) (not-true _ apart) (subst (Typed (inside (cs ++ ds) env) c) (atom-is Boolean v h) tv))
+    after (judge-together cs ds p) (apart cs ds tc td) λ all whole.
+    after (judge (inside all env) c) (λ f x. inner-fails cs ds tc td whole x) λ v tv.
+    asked (isAtom Boolean v) _ (λ h. inner-type cs ds tc td whole tv (refutes (is-atom Boolean) h)) λ h.
+    inner-typed cs ds tc td whole (subst (Typed (inside all env) c) (atom-is Boolean v h) tv)
   where
+    apart : (cs ds : List Column) → Typed env a (table cs) → Typed env b (table ds) → (f : Fault) → Apart cs ds p f → Fails env (joined p a c b) f
+    apart cs ds tc td f (crowded many) = joined-count tc td many
+    apart cs ds tc td f (common few both) = joined-names tc td few both
+
+    inner-fails : (cs ds : List Column) → Typed env a (table cs) → Typed env b (table ds) → {all : List Column} → Together cs ds all → {f : Fault} → Fails (inside all env) c f → Fails env (joined p a c b) f
+    inner-fails cs ds tc td (in-one few apart) x = joined-inner tc td few apart x
+
+    inner-type : (cs ds : List Column) → Typed env a (table cs) → Typed env b (table ds) → {all : List Column} → Together cs ds all → {t : ValueType} → Typed (inside all env) c t → Not (t ≡ atom Boolean) → Fails env (joined p a c b) (fault OperandMismatch p)
+    inner-type cs ds tc td (in-one few apart) x no-so = joined-type tc td few apart x no-so
+
+    inner-typed : (cs ds : List Column) → Typed env a (table cs) → Typed env b (table ds) → {all : List Column} → Together cs ds all → Typed (inside all env) c (atom Boolean) → Judged (Typed env (joined p a c b)) (Fails env (joined p a c b)) (Ok (table all))
+    inner-typed cs ds tc td (in-one few apart) x = judged-good (joined-typed tc td few apart x)
+
     left-atom : (u : ValueType) → Typed env b u → (f : Fault) → NoTable (Typed env a) p f → Fails env (joined p a c b) f
     left-atom u tb f (no-table h) = joined-left-atom h tb
 
@@ -191,18 +254,25 @@ judge env (negated p a) =
 judge env (projected p names e) =
     after (judge env e) (λ f x. projected-operand x) λ t te.
     after (a-table (Typed env e) t p te) no-atom λ cs tc.
-    after (judge-listed cs [] names) (λ f m. projected-names tc m) λ _ l.
-    judged-good (projected-typed tc l)
+    after (judge-projection cs names) (λ f m. projected-names tc m) λ left l. of-listed cs tc l
   where
+    of-listed : (cs : List Column) → Typed env e (table cs) → {left : List Column} → Projection cs names left → Judged (Typed env (projected p names e)) (Fails env (projected p names e)) (Ok (table left))
+    of-listed cs tc (projection-of l) = judged-good (projected-typed tc l)
+
     no-atom : (f : Fault) → NoTable (Typed env e) p f → Fails env (projected p names e) f
     no-atom f (no-table h) = projected-atom h
 judge env (renamed p names e) =
     after (judge env e) (λ f x. renamed-operand x) λ t te.
     after (a-table (Typed env e) t p te) no-atom λ cs tc.
-    asked (eqb (length names) (length cs)) _ (λ h. renamed-count tc (refutes (is-eqb _ _) h)) λ h.
-    after (judge-distinct [] names) (λ f m. renamed-names tc (eqb-is _ _ h) m) λ _ l.
-    judged-good (renamed-typed tc (eqb-is _ _ h) l)
+    after (judge-renaming cs names p) (not-renamed cs tc) λ fresh l. of-renamed cs tc l
   where
+    of-renamed : (cs : List Column) → Typed env e (table cs) → {fresh : List Column} → Renaming cs names fresh → Judged (Typed env (renamed p names e)) (Fails env (renamed p names e)) (Ok (table fresh))
+    of-renamed cs tc (renaming-of many l) = judged-good (renamed-typed tc many l)
+
+    not-renamed : (cs : List Column) → Typed env e (table cs) → (f : Fault) → NoRenaming cs names p f → Fails env (renamed p names e) f
+    not-renamed cs tc f (other-count no-so) = renamed-count tc no-so
+    not-renamed cs tc f (other-names many m) = renamed-names tc many m
+
     no-atom : (f : Fault) → NoTable (Typed env e) p f → Fails env (renamed p names e) f
     no-atom f (no-table h) = renamed-atom h
 judge env (selected p c e) =
@@ -248,12 +318,24 @@ judge env (updated p (named n q) x e) =
 judge env (extended p (typed d r) (named n q) x e) =
     after (judge env e) (λ f y. extended-operand y) λ t te.
     after (a-table (Typed env e) t p te) no-atom λ cs tc.
-    asked (ltb (length cs) columns) _ (λ h. extended-count tc (ltb-le _ _ h)) λ few.
-    asked (not (has cs n)) _ (λ h. extended-name tc (ltb-lt _ _ few) (not-false _ h)) λ new.
-    after (judge (inside cs env) x) (λ f y. extended-inner tc (ltb-lt _ _ few) (not-true _ new) y) λ u tu.
-    asked (isAtom d u) _ (λ h. extended-type tc (ltb-lt _ _ few) (not-true _ new) tu (refutes (is-atom d) h)) λ h.
-    judged-good (extended-typed tc (ltb-lt _ _ few) (not-true _ new) (subst (Typed (inside cs env) x) (atom-is d u h) tu))
+    after (judge-column cs n d p q) (no-longer cs tc) λ more longer.
+    after (judge (inside cs env) x) (λ f y. inner-fails cs tc longer y) λ u tu.
+    asked (isAtom d u) _ (λ h. inner-type cs tc longer tu (refutes (is-atom d) h)) λ h.
+    inner-typed cs tc longer (subst (Typed (inside cs env) x) (atom-is d u h) tu)
   where
+    no-longer : (cs : List Column) → Typed env e (table cs) → (f : Fault) → NoLonger cs n p q f → Fails env (extended p (typed d r) (named n q) x e) f
+    no-longer cs tc f (no-room many) = extended-count tc many
+    no-longer cs tc f (old-name few old) = extended-name tc few old
+
+    inner-fails : (cs : List Column) → Typed env e (table cs) → {more : List Column} → Longer cs n d more → {f : Fault} → Fails (inside cs env) x f → Fails env (extended p (typed d r) (named n q) x e) f
+    inner-fails cs tc (at-the-end few new) y = extended-inner tc few new y
+
+    inner-type : (cs : List Column) → Typed env e (table cs) → {more : List Column} → Longer cs n d more → {t : ValueType} → Typed (inside cs env) x t → Not (t ≡ atom d) → Fails env (extended p (typed d r) (named n q) x e) (fault OperandMismatch p)
+    inner-type cs tc (at-the-end few new) y no-so = extended-type tc few new y no-so
+
+    inner-typed : (cs : List Column) → Typed env e (table cs) → {more : List Column} → Longer cs n d more → Typed (inside cs env) x (atom d) → Judged (Typed env (extended p (typed d r) (named n q) x e)) (Fails env (extended p (typed d r) (named n q) x e)) (Ok (table more))
+    inner-typed cs tc (at-the-end few new) y = judged-good (extended-typed tc few new y)
+
     no-atom : (f : Fault) → NoTable (Typed env e) p f → Fails env (extended p (typed d r) (named n q) x e) f
     no-atom f (no-table h) = extended-atom h
 

@@ -64,6 +64,25 @@ unfoldable pub fitting : List Domain → List Tuple → Answer (Unit {0})
 fitting ds [] = Ok tt
 fitting ds (tupleOf cs p ∷ rest) = ask (sameDomains (map domainOf cs) ds) (fault OperandMismatch p) (fitting ds rest)
 
+-- What an operator makes of columns.
+
+-- join: the left columns, then the right
+unfoldable pub together : List Column → List Column → Place → Answer (List Column)
+together cs ds p = ask (leb (length cs + length ds) columns) (fault TooMany p) (ask (not (meet cs ds)) (fault RepeatedName p) (Ok (cs ++ ds)))
+
+-- extend: one column more at the end; p is the operator's place, q the name's
+unfoldable pub withColumn : List Column → Bytes → Domain → Place → Place → Answer (List Column)
+withColumn cs n d p q = ask (ltb (length cs) columns) (fault TooMany p) (ask (not (has cs n)) (fault RepeatedName q) (Ok (cs ++ (columnNamed n d ∷ []))))
+
+-- project: the listed columns, in the table's order
+unfoldable pub projection : List Column → List Name → Answer (List Column)
+projection cs names = bind (listed cs [] names) λ all. Ok (kept (map bytesIn names) cs)
+
+-- rename: the same columns under other names
+unfoldable pub renamings : List Column → List Name → Place → Answer (List Column)
+renamings cs names p =
+    ask (eqb (length names) (length cs)) (fault OperandMismatch p) (bind (distinct [] names) λ all. Ok (renaming (map bytesIn names) cs))
+
 -- Expressions.
 
 unfoldable pub check : Environment → Expression → Answer ValueType
@@ -84,17 +103,14 @@ check env (multiplied o p a b) =
     bind (check env a) λ t. bind (check env b) λ u. ask (bothAtoms Integer t u) (fault OperandMismatch p) (Ok (atom Integer))
 check env (joined p a c b) =
     bind (check env a) λ t. bind (check env b) λ u. bind (columnsOf t p) λ cs. bind (columnsOf u p) λ ds.
-    ask (leb (length cs + length ds) columns) (fault TooMany p) (ask (not (meet cs ds)) (fault RepeatedName p)
-    (bind (check (inside (cs ++ ds) env) c) λ v. ask (isAtom Boolean v) (fault OperandMismatch p) (Ok (table (cs ++ ds)))))
+    bind (together cs ds p) λ all. bind (check (inside all env) c) λ v.
+    ask (isAtom Boolean v) (fault OperandMismatch p) (Ok (table all))
 check env (negative p a) = bind (check env a) λ t. ask (isAtom Integer t) (fault OperandMismatch p) (Ok (atom Integer))
 check env (negated p a) = bind (check env a) λ t. ask (isAtom Boolean t) (fault OperandMismatch p) (Ok (atom Boolean))
 check env (projected p names e) =
-    bind (check env e) λ t. bind (columnsOf t p) λ cs. bind (listed cs [] names) λ all.
-    Ok (table (kept (map bytesIn names) cs))
+    bind (check env e) λ t. bind (columnsOf t p) λ cs. bind (projection cs names) λ left. Ok (table left)
 check env (renamed p names e) =
-    bind (check env e) λ t. bind (columnsOf t p) λ cs.
-    ask (eqb (length names) (length cs)) (fault OperandMismatch p) (bind (distinct [] names) λ all.
-    Ok (table (renaming (map bytesIn names) cs)))
+    bind (check env e) λ t. bind (columnsOf t p) λ cs. bind (renamings cs names p) λ fresh. Ok (table fresh)
 check env (selected p c e) =
     bind (check env e) λ t. bind (columnsOf t p) λ cs. bind (check (inside cs env) c) λ u.
     ask (isAtom Boolean u) (fault OperandMismatch p) (Ok (table cs))
@@ -108,9 +124,8 @@ check env (updated p (named n q) x e) =
     bind (check env e) λ t. bind (columnsOf t p) λ cs. bind (orAbsent (find (isColumn n) (cs ∷ [])) q) λ f.
     bind (check (inside cs env) x) λ u. ask (isAtom (f .entry .domain) u) (fault OperandMismatch p) (Ok (table cs))
 check env (extended p (typed d r) (named n q) x e) =
-    bind (check env e) λ t. bind (columnsOf t p) λ cs.
-    ask (ltb (length cs) columns) (fault TooMany p) (ask (not (has cs n)) (fault RepeatedName q)
-    (bind (check (inside cs env) x) λ u. ask (isAtom d u) (fault OperandMismatch p) (Ok (table (cs ++ (columnNamed n d ∷ []))))))
+    bind (check env e) λ t. bind (columnsOf t p) λ cs. bind (withColumn cs n d p q) λ more.
+    bind (check (inside cs env) x) λ u. ask (isAtom d u) (fault OperandMismatch p) (Ok (table more))
 
 -- Definitions.
 
