@@ -67,10 +67,10 @@ unfolding Stepped
 stepped-err text a b (Ok u) y x e i h = absurd (let z : _≡_ {A = ℕ} 0 1 = cc in omega arith)
 stepped-err text a b (Err f) y x e i h = let g : x ≡ f = cc in h ∙ ap some g
 
-pub answers-err : (P : Holding) (text : Bytes) (o : Outcome) (a b : Parser) (xs ys : List Node) (r : Result ℕ Fault) (y x : Fault) → r ≡ Err y → y ≡ x → refusedBy (endOf text) o ≡ some x → Answers P text o a b xs ys r
+pub answers-err : (P : Holding) (text : Bytes) (o : Outcome) (from : ℕ) (a b : Parser) (xs ys : List Node) (r : Result ℕ Fault) (y x : Fault) → r ≡ Err y → y ≡ x → refusedBy (endOf text) o ≡ some x → Answers P text o from a b xs ys r
 unfolding Answers
-answers-err P text o a b xs ys (Ok u) y x e i h = absurd (let z : _≡_ {A = ℕ} 0 1 = cc in omega arith)
-answers-err P text o a b xs ys (Err f) y x e i h = let g : x ≡ f = cc in h ∙ ap some g
+answers-err P text o from a b xs ys (Ok u) y x e i h = absurd (let z : _≡_ {A = ℕ} 0 1 = cc in omega arith)
+answers-err P text o from a b xs ys (Err f) y x e i h = let g : x ≡ f = cc in h ∙ ap some g
 
 -- the tokens ahead begin at the token ahead, or at the text's end
 place-before : (text : Bytes) (t : Option Terminal) (p : Place) (s : List Token) → TellsAhead text t p → placeIn (endOf text) (before t p s) ≡ p

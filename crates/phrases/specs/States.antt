@@ -108,23 +108,34 @@ pub record Numbers (a b : Parser) : Type 0 where
   pub onward : worth b < worth a
   pub grown : a .count ≤ b .count
 
+-- the same, where perhaps no token is read
+pub record NumbersOn (a b : Parser) : Type 0 where
+  pub thrifty : b .count + worth b ≤ a .count + worth a
+  pub onward : worth b ≤ worth a
+  pub grown : a .count ≤ b .count
+
 -- what the nodes of a part are: in this text, in this arena, from this entry up to that one, by this index
 abbrev pub Holding : Type 1
 Holding = Bytes → List Node → ℕ → ℕ → ℕ → Part → Type 0
 
--- a reading has found its part, and the arena holds it from the first free entry on; nothing else in it has changed
-pub record Done (P : Holding) (text : Bytes) (o : Outcome) (a b : Parser) (xs ys : List Node) (i : ℕ) : Type 0 where
+-- a reading has found its part, and the arena holds it in the entries from one on; nothing else in it has changed
+pub record Done (P : Holding) (text : Bytes) (o : Outcome) (from : ℕ) (a b : Parser) (xs ys : List Node) (i : ℕ) : Type 0 where
   pub part : Part
   pub value : o ≡ found part (tokensAhead b)
   pub grounded : Grounded text b
-  pub below : Below (a .count) xs ys
+  pub below : Below from xs ys
   pub beyond : Beyond (b .count) xs ys
-  pub holds : P text ys (a .count) (b .count) i part
+  pub holds : P text ys from (b .count) i part
 
-unfoldable pub Answers : Holding → Bytes → Outcome → Parser → Parser → List Node → List Node → Result ℕ Fault → Type 0
-Answers P text o a b xs ys (Ok i) = Done P text o a b xs ys i
-Answers P text o a b xs ys (Err f) = refusedBy (endOf text) o ≡ some f
+unfoldable pub Answers : Holding → Bytes → Outcome → ℕ → Parser → Parser → List Node → List Node → Result ℕ Fault → Type 0
+Answers P text o from a b xs ys (Ok i) = Done P text o from a b xs ys i
+Answers P text o from a b xs ys (Err f) = refusedBy (endOf text) o ≡ some f
 
--- a function of the parser does what the reader does on the tokens ahead
+-- a function of the parser does what the reader does on the tokens ahead, and puts its nodes into the free entries
 abbrev pub Follows : Holding → Reader → Parser → Parser → List Node → List Node → Result ℕ Fault → Type 0
-Follows P reader a b xs ys r = (text : Bytes) → Grounded text a → Answers P text (reader (tokensAhead a)) a b xs ys r
+Follows P reader a b xs ys r = (text : Bytes) → Grounded text a → Answers P text (reader (tokensAhead a)) (a .count) a b xs ys r
+
+-- one that goes on from a part which the arena holds, by the index i
+abbrev pub GoesOn : Holding → (Part → Reader) → ℕ → Parser → Parser → List Node → List Node → Result ℕ Fault → Type 0
+GoesOn P reader i a b xs ys r =
+    (text : Bytes) → Grounded text a → (from : ℕ) (t : Part) → P text xs from (a .count) i t → Answers P text (reader t (tokensAhead a)) from a b xs ys r
