@@ -1,8 +1,9 @@
 -- The grammar as readers: each takes tokens and finds a part and the tokens after it, or refuses at the first token that does not fit.
-use Prim.Native.Nat.{ℕ, zero, suc}
+use Prim.Native.Nat.{ℕ, zero, suc, _≤_}
 use mathlib.Core.List.{List, [], _∷_}
 use mathlib.Core.Bool.{Bool, true, false}
 use mathlib.Core.Option.{Option, none, some}
+use mathlib.Core.Path.{_≡_}
 use lib.ListN.{length}
 use Rattle.words.specs.Tokens.{Token, Place, Token._at_}
 use Rattle.grammar.specs.Parts.{Part, Level, Turn, Leaf, Argument, FactorStart, StatementStart, turnAt, levelAfter, leafOf, argumentOf, factorStart}
@@ -75,6 +76,14 @@ takeTurns f b (suc m) l t s = oneTurn (takeTurns f b m) f b l t s
 
 unfoldable pub readLevel : Reader → Reader → Level → Reader
 readLevel f b l s = andThen (f s) (λ t r. takeTurns f b (length r) l t r)
+
+-- what a level reads behind a part that it has, however many turns that takes
+unfoldable pub rest : Reader → Reader → Level → Part → Reader
+rest f b l t s = takeTurns f b (length s) l t s
+
+-- a reader leaves no more tokens than it was given
+abbrev pub Shorter : Reader → Type 0
+Shorter f = (s : List Token) (t : Part) (r : List Token) → f s ≡ found t r → length r ≤ length s
 
 -- the small parts
 unfoldable pub readAttribute : Reader

@@ -1,1 +1,4 @@
 pub mod Scans
+pub mod Steps
+pub mod LeafNodes
+pub mod Puts

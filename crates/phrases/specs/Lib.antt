@@ -1,1 +1,5 @@
 pub mod Places
+pub mod States
+pub mod Leaves
+pub mod Held
+pub mod Sorts

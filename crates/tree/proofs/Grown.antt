@@ -9,7 +9,7 @@ use lib.Seq.{getD-set-same, getD-set-other}
 use Rattle.tree.specs.declared.nodes.Node.{Node}
 use Rattle.tree.specs.Holds.{nodeAt, said, empty}
 use Rattle.tree.specs.Kept.{Below, Beyond}
-use Rattle.tree.proofs.Stable.{Agree}
+use Rattle.tree.proofs.Stable.{Agree, Firm}
 
 pub below-then : (n m : ℕ) (xs ys zs : List Node) → n ≤ m → Below n xs ys → Below m ys zs → Below n xs zs
 below-then n m xs ys zs h s t i l = t i (omega arith) ∙ s i l
@@ -27,5 +27,9 @@ beyond-set n m xs v h i l = let ne : i ≢ m = omega arith in rw getD-set-other
 pub here : (xs : List Node) (i : ℕ) (v : Node) → i < length xs → nodeAt (set xs i v) i ≡ v
 here xs i v h = rw getD-set-same
 
-pub below-agree : (n : ℕ) (xs ys : List Node) → Below n xs ys → Agree n xs ys
-below-agree n xs ys b = record { same = λ j l. ap said (b j l); linked = λ j l. ap (λ i. i .next) (b j (omega arith)) }
+-- what is the same below n is linked in the same way
+pub below-firm : (from n : ℕ) (xs ys : List Node) → Below n xs ys → Firm from n xs ys
+below-firm from n xs ys b = record { same = λ j l m. ap said (b j m); linked = λ j l m. ap (λ i. i .next) (b j m) }
+
+pub below-agree : (from n : ℕ) (xs ys : List Node) → Below n xs ys → Agree from n xs ys
+below-agree from n xs ys b = record { same = λ j l m. ap said (b j m); linked = λ j l m. ap (λ i. i .next) (b j (omega arith)) }
