@@ -1,0 +1,5 @@
+pub mod Passes
+pub mod Numbering
+pub mod Counting
+pub mod Fields
+pub mod Changes
