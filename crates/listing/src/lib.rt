@@ -3,7 +3,7 @@
 // The format, and what its readers promise, stand in the crate texts.
 mod cell;
 mod headings;
-mod names;
+pub mod names;
 mod places;
 mod reader;
 mod rows;
