@@ -78,8 +78,8 @@ pub fn atom_line(line: &mut [u8], value: Shown, sources: Sources<'_>) -> Result<
     if line.len() < LINE_BYTES {
         return Err(too_small());
     }
-    let next = put_value(line, 0, value, sources);
-    Ok(put(line, next, b'\n'))
+    let end = put_value(line, 0, value, sources);
+    Ok(put(line, end, b'\n'))
 }
 
 // `to "NAME"`: the first line of a print that has a name.
@@ -92,8 +92,8 @@ pub fn to_line(line: &mut [u8], name: Text, sources: Sources<'_>) -> Result<usiz
         return Err(too_small());
     }
     let start = put_all(line, 0, b"to ");
-    let next = put_string(line, start, name.of(sources));
-    Ok(put(line, next, b'\n'))
+    let quoted = put_string(line, start, name.of(sources));
+    Ok(put(line, quoted, b'\n'))
 }
 
 // A format behind the line: the letter of an atom's domain, or a table's heading, and the line feed.

@@ -8,6 +8,8 @@ mod places;
 mod reader;
 mod rows;
 mod values;
+pub mod whole;
 
 pub use cell::Cell;
 pub use reader::Reader;
+pub use whole::read_table;

@@ -11,8 +11,8 @@ returns c =
     let value = valueOf (c .args .sources) (c .args .value) in
     let long = length-append (valueBytes value) (codes "\n") in
     record {
-      reply = line-reply (atomLine value) (c .args .line .now) _ (omega arith) (omega (arith, long, c .put-value-next .ensures .next, c .put .ensures .next));
+      reply = line-reply (atomLine value) (c .args .line .now) _ (omega arith) (omega (arith, long, c .put-value-end .ensures .next, c .put .ensures .next));
       after = line-after (atomLine value) (c .args .line .now) _ (omega arith)
-          (writes-then 0 _ (valueBytes value) (codes "\n") _ _ _ (c .put-value-next .ensures .next) (c .put-value-next .ensures .bytes) (c .put .ensures .bytes));
-      fits = omega (arith, c .put-value-next .ensures .short, c .put .ensures .next);
+          (writes-then 0 _ (valueBytes value) (codes "\n") _ _ _ (c .put-value-end .ensures .next) (c .put-value-end .ensures .bytes) (c .put .ensures .bytes));
+      fits = omega (arith, c .put-value-end .ensures .short, c .put .ensures .next);
     }

@@ -14,9 +14,9 @@ returns c =
     let size = ap length told in
     let long = length-append (stringBytes name) (codes "\n") in
     record {
-      reply = line-reply (toLine name) (c .args .line .now) _ (omega arith) (omega (arith, size, long, c .put-all-start .ensures .next, c .put-string-next .ensures .next, c .put .ensures .next));
+      reply = line-reply (toLine name) (c .args .line .now) _ (omega arith) (omega (arith, size, long, c .put-all-start .ensures .next, c .put-string-quoted .ensures .next, c .put .ensures .next));
       after = line-after (toLine name) (c .args .line .now) _ (omega arith)
           (writes-then 0 _ (codes "to ") _ _ _ _ (c .put-all-start .ensures .next) (c .put-all-start .ensures .bytes)
-          (writes-then _ _ (stringBytes name) (codes "\n") _ _ _ (omega (arith, size, c .put-string-next .ensures .next)) (writes-as _ _ _ _ _ told (c .put-string-next .ensures .bytes)) (c .put .ensures .bytes)));
-      fits = omega (arith, c .of .ensures .short, c .put-all-start .ensures .next, c .put-string-next .ensures .end, c .put .ensures .next);
+          (writes-then _ _ (stringBytes name) (codes "\n") _ _ _ (omega (arith, size, c .put-string-quoted .ensures .next)) (writes-as _ _ _ _ _ told (c .put-string-quoted .ensures .bytes)) (c .put .ensures .bytes)));
+      fits = omega (arith, c .of .ensures .short, c .put-all-start .ensures .next, c .put-string-quoted .ensures .end, c .put .ensures .next);
     }
