@@ -14,7 +14,7 @@ use Rattle.texts.specs.Readers.{Reading, Reading.taken, Reading.refused, Reader
 use Rattle.texts.specs.Language.{Value}
 use Rattle.texts.specs.Reading.{readColumn, readValue}
 use Rattle.listing.specs.declared.cell.Cell.{Cell}
-use Rattle.listing.proofs.Steps.{word-as}
+use Rattle.texts.proofs.Turns.{word-as}
 use Rattle.listing.specs.Seen.{passed, columnBehind, valueBehind, valueIn, valuesIn, domainsOf}
 
 -- the first entry, then the others

@@ -1,3 +1,4 @@
 pub mod Steps
 pub mod Exits
 pub mod Entries
+pub mod Tables

@@ -12,6 +12,7 @@ use Rattle.fault.specs.declared.rules.Rule.{Rule}
 use Rattle.fault.specs.declared.rules.Rule.the-variants.{WrongCell}
 use lib.Chars.{codes}
 use Rattle.texts.specs.Readers.{Reading, Reading.taken, Reading.refused, first, bind, word, wordOn}
+use Rattle.texts.proofs.Turns.{word-as}
 use Rattle.texts.specs.Language.{plain}
 use Rattle.texts.specs.Reading.{next, readQuoted, readBoolean}
 
@@ -94,17 +95,6 @@ module _ (rule : Rule) (w : List ℕ) (i : ℕ) (s : List ℕ) (x : Reading (Uni
 
   pub word-off : (other : Rule) (r : List ℕ) → refused other r ≡ word rule (getD w i 0 ∷ []) (tt {0}) s → refused other r ≡ x
   word-off other r e = ap (onward (i + 1)) e ∙ (sym (word-turn (getD w i 0) (drop (i + 1) w) s) ∙ (ap (λ z. word rule z (tt {0}) s) (sym (drop-more w i 0 here)) ∙ whole))
-
--- a word for another value
-pub word-as : {A : Type 0} (rule : Rule) (w : List ℕ) (a : A) (s : List ℕ) → word rule w a s ≡ bind (word rule w (tt {0}) s) (λ (_ : Unit {0}) r. taken a r)
-word-as rule [] a s = refl
-word-as rule (c ∷ w) a [] = refl
-word-as {A = A} rule (c ∷ w) a (b ∷ s) = go (eqb b c) (word-as rule w a s)
-  where
-    go : (y : Bool) → word rule w a s ≡ bind (word rule w (tt {0}) s) (λ (_ : Unit {0}) r. taken a r) →
-        wordOn y rule b s (word rule w a s) ≡ bind (wordOn y rule b s (word rule w (tt {0}) s)) (λ (_ : Unit {0}) r. taken a r)
-    go true h = h
-    go false h = refl
 
 -- the two ways of a boolean
 pub boolean-by : (s : List ℕ) (x : Bool) → next 116 (first s) ≡ x → (y : Reading (Unit {0})) → y ≡ word WrongCell (cond x (codes "true") (codes "false")) tt s →

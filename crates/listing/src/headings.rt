@@ -4,7 +4,6 @@ ghost use mathlib.Core.List.{[], map};
 ghost use Rattle.words.specs.Spans.{bytesOf};
 ghost use Rattle.fault.specs.declared.rules.Rule.the-variants.{WrongHeading};
 ghost use Rattle.schema.specs.Columns.{columnOf, schemaOf};
-ghost use Rattle.texts.specs.Formats.{closing};
 ghost use Rattle.texts.specs.Readers.{word, entries};
 ghost use Rattle.texts.specs.Reading.{readName, readColumn, readHeading};
 ghost use Rattle.listing.specs.Seen.{rest, seen, AtFault, passed, columnBehind};

@@ -3,11 +3,13 @@
 // The format, and what its readers promise, stand in the crate texts.
 mod cell;
 mod headings;
-mod names;
+pub mod names;
 mod places;
 mod reader;
 mod rows;
 mod values;
+pub mod whole;
 
 pub use cell::Cell;
 pub use reader::Reader;
+pub use whole::read_table;

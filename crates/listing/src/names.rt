@@ -1,5 +1,9 @@
 // Names as headings show them. Bytes that are no name, as a foreign script may bring, count as none.
 ghost use mathlib.Core.Path.{_≡_};
+ghost use Prim.Native.Nat.{_≤_};
+ghost use lib.ListN.{length};
+ghost use Rattle.std.specs.Options.{Cases as BySome};
+ghost use Rattle.fault.specs.Limits.{name-bytes};
 ghost use Rattle.words.specs.Spans.{bytesOf};
 ghost use Rattle.domain.specs.Domains.{letterOf};
 ghost use Rattle.texts.specs.Language.{letter, nameByte, allNameBytes, isName};
@@ -32,7 +36,7 @@ fn all_name_bytes(bytes: &[u8]) -> bool
 }
 
 // A letter, then letters, digits and underscores, at most `NAME_BYTES` in all.
-pub(crate) fn is_name(bytes: &[u8]) -> bool
+pub fn is_name(bytes: &[u8]) -> bool
     ensures { λ r. ⌜ r ≡ isName (now (bytes .entry)) ⌝ }
 {
     match bytes {
@@ -44,8 +48,9 @@ pub(crate) fn is_name(bytes: &[u8]) -> bool
 }
 
 // The name that a heading has for an attribute: its part of the script, if that is a name.
-pub(crate) fn title<'a>(attribute: Attribute, script: &'a [u8]) -> Option<&'a [u8]>
-    ensures { λ r. ⌜ bytesOf r ≡ titleOf (now (script .entry)) attribute ⌝ }
+pub fn title<'a>(attribute: Attribute, script: &'a [u8]) -> Option<&'a [u8]>
+    ensures value { λ r. ⌜ bytesOf r ≡ titleOf (now (script .entry)) attribute ⌝ }
+    ensures short { λ r. ⌜ BySome r (Unit {0}) (λ n. length (now n) ≤ name-bytes) ⌝ }
 {
     let name = attribute.name(script)?;
     if is_name(name) {
@@ -55,7 +60,7 @@ pub(crate) fn title<'a>(attribute: Attribute, script: &'a [u8]) -> Option<&'a [u
 }
 
 // The letter of a domain, as a byte of a line.
-pub(crate) fn letter_byte(domain: Domain) -> u8
+pub fn letter_byte(domain: Domain) -> u8
     ensures { λ r. ⌜ r ≡ letterOf domain ⌝ }
 {
     domain.letter() as u8

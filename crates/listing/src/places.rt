@@ -2,7 +2,7 @@
 // The line is counted at a refusal only, so that reading keeps no more than a position.
 ghost use mathlib.Core.Path.{_≡_};
 ghost use mathlib.Core.List.{[], _∷_};
-ghost use Prim.Native.Nat.{ℕ, _+_, _<_, _≤_};
+ghost use Prim.Native.Nat.{_+_, _<_, _≤_};
 ghost use lib.ListN.{length, drop, take};
 ghost use Rattle.std.specs.Options.{Cases as BySome};
 ghost use Rattle.fault.specs.Limits.{text-bytes};

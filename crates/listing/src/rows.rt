@@ -3,7 +3,6 @@ ghost use mathlib.Core.Path.{_≡_};
 ghost use mathlib.Core.List.{[]};
 ghost use Prim.Native.Nat.{_≤_};
 ghost use Rattle.fault.specs.Limits.{columns};
-ghost use lib.Chars.{codes};
 ghost use lib.ListN.{length};
 ghost use Rattle.fault.specs.declared.rules.Rule.the-variants.{WrongRow};
 ghost use Rattle.schema.specs.Columns.{held};

@@ -1,7 +1,7 @@
 // The readers of values. What they refuse is a wrong cell.
 ghost use mathlib.Core.Path.{_≡_};
-ghost use Prim.Native.Nat.{ℕ, _≤_};
-ghost use lib.IntN.{ℤ, pos, negℤ};
+ghost use Prim.Native.Nat.{_≤_};
+ghost use lib.IntN.{pos, negℤ};
 ghost use Rattle.std.specs.Results.{Cases as ByOk};
 ghost use Rattle.fault.specs.Limits.{string-bytes};
 ghost use Rattle.texts.specs.Language.{most, least};

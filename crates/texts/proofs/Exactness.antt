@@ -286,11 +286,11 @@ module _ {A : Type 0} (test : Option ℕ → Bool) (F : Format A) (G : Format (L
       (after-reads F (λ a. Given (λ more. a ∷ more) (Upto n)) anywhere S f _ xf (λ a p t. give-reads (λ more. a ∷ more) (Upto n) S _ (upto-reads n)) (λ a b p r t e. tt))
       xg (λ vs p r t e. ap (λ z. test (first z)) (ap (λ z. z ++ r) (t .parts) ∙ append-assoc (t .front) (t .back) r) ∙ begins (t .value) (t .front) (t .back ++ r) (t .begins)) closes
 
-  abbrev short : List ℕ → Reading A → Type 0
+  abbrev pub short : List ℕ → Reading A → Type 0
   short s (taken a r) = length r < length s
   short s (refused rule r) = Unit {0}
 
-  shorter : (s : List ℕ) (x : Reading A) → Outcome F anywhere f s x → short s x
+  pub shorter : (s : List ℕ) (x : Reading A) → Outcome F anywhere f s x → short s x
   shorter s (taken a r) o = let long = ap length (o .parts) ∙ length-append (o .front) r in omega (arith, long, takes-some a (o .front) (o .text))
   shorter s (refused rule r) o = tt
 
@@ -306,6 +306,20 @@ module _ {A : Type 0} (test : Option ℕ → Bool) (F : Format A) (G : Format (L
           bind x (λ a. give (λ more. a ∷ more) (turns test f g n)) ≡ bind x (λ a. give (λ more. a ∷ more) (turns test f g m))
       step ih (taken a r) h = ap (λ x. bind x (λ vs q. taken (a ∷ vs) q)) (ih r (omega (arith, h)) (omega (arith, h)))
       step ih (refused rule r) h = refl
+
+  -- one text more, if the next byte says so
+  pub many-on : (s : List ℕ) → test (first s) ≡ true → many test f g s ≡ bind (f s) (λ a q. bind (many test f g q) (λ more r. taken (a ∷ more) r))
+  many-on [] h = absurd (true≢false (sym h ∙ ends))
+  many-on (b ∷ s) h = ap (λ x. cond x (after f (λ a. give (λ more. a ∷ more) (turns test f g (length s))) (b ∷ s)) (g (b ∷ s))) h ∙ step (f (b ∷ s)) (shorter (b ∷ s) (f (b ∷ s)) (xf .reads (b ∷ s)))
+    where
+      step : (x : Reading A) → short (b ∷ s) x → bind x (λ a. give (λ more. a ∷ more) (turns test f g (length s))) ≡ bind x (λ a q. bind (many test f g q) (λ more r. taken (a ∷ more) r))
+      step (taken a r) k = ap (λ x. bind x (λ more q. taken (a ∷ more) q)) (turns-same (length s) (length r) r (omega (arith, k)) (omega arith))
+      step (refused rule r) k = refl
+
+  -- the closing text, if it does not
+  pub many-off : (s : List ℕ) → test (first s) ≡ false → many test f g s ≡ g s
+  many-off [] h = refl
+  many-off (b ∷ s) h = ap (λ x. cond x (after f (λ a. give (λ more. a ∷ more) (turns test f g (length s))) (b ∷ s)) (g (b ∷ s))) h
 
   closed : (vs : List A) (p : List ℕ) → G vs p → Many F G vs p
   closed [] p t = t

@@ -1,5 +1,4 @@
 -- Texts that are accepted, and others with the place where they are refused, by computation.
-use Prim.Native.Nat.{ℕ}
 use mathlib.Core.Path.{_≡_, refl}
 use mathlib.Core.List.{List, [], _∷_}
 use lib.Chars.{codes}
@@ -9,7 +8,7 @@ use Rattle.fault.specs.declared.rules.Rule.the-variants.{WrongHeading, WrongRow
 use Rattle.domain.specs.declared.Domain.the-variants.{Integer, String}
 use Rattle.schema.specs.Columns.{Column}
 use Rattle.texts.specs.Language.{Value.integer, Value.string}
-use Rattle.texts.specs.Readers.{Reading, Reading.taken, Reading.refused}
+use Rattle.texts.specs.Readers.{Reading.taken, Reading.refused}
 use Rattle.texts.specs.Reading.{readQuoted, readInteger, readTable, readAtom}
 
 -- (a:i,b:s)

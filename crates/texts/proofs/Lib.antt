@@ -7,4 +7,5 @@ pub mod Blame
 pub mod Due
 pub mod Feeds
 pub mod Layers
+pub mod Turns
 mod Examples
