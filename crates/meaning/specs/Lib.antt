@@ -1,0 +1,4 @@
+pub mod Evaluation
+pub mod Laws
+pub mod Meaning
+pub mod Values
