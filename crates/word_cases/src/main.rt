@@ -89,7 +89,7 @@ fn tell_all(rt: &LibcRuntime, text: &Text) -> Result<(), AnyError> {
 }
 
 fn main(rt: LibcRuntime) -> Result<(), AnyError> {
-    for line in BufReader::new(rt.stdin(), rt.alloc())?.lines(rt.alloc()) {
+    for line in BufReader::new(rt.stdin()).lines(rt.alloc()) {
         let line = line?;
         match Text::new(unescaped(rt.alloc(), line.as_bytes())?) {
             Ok(text) => tell_all(&rt, &text)?,
