@@ -2,10 +2,6 @@
 // Every byte takes one column, so that the caret stands right whatever the text holds.
 ghost use mathlib.Core.Path.{_≡_};
 ghost use Rattle.excerpt.specs.Excerpts.{LineStart, LineEnd, printed};
-ghost use lib.ListN.{length};
-ghost use Prim.Native.Nat.{_≤_};
-use std::alloc::AllocError;
-use std::alloc::Global;
 
 // Where the line of a byte begins: behind the last line feed before it.
 pub fn line_start(text: &[u8], byte: usize) -> usize
@@ -38,20 +34,4 @@ pub fn shown(b: u8) -> char
         b'\t' => ' ',
         _ => '?',
     }
-}
-
-// The line of a byte, and below it a caret under the byte, each with its line feed.
-pub fn excerpt(heap: Global, text: &[u8], byte: usize) -> Result<String, AllocError> {
-    let start = line_start(text, byte);
-    let end = line_end(text, byte);
-    let mut lines = String::new(heap);
-    for b in &text[start..end] {
-        lines.push(shown(*b))?;
-    }
-    lines.push('\n')?;
-    for _ in start..byte.min(text.len()) {
-        lines.push(' ')?;
-    }
-    lines.push_str("^\n")?;
-    Ok(lines)
 }

@@ -1,7 +1,9 @@
 // The program `table`: reads its options, calls the library, prints what was done.
 mod example;
 
-use excerpt::excerpt;
+use excerpt::line_end;
+use excerpt::line_start;
+use excerpt::shown;
 use fault::Fault;
 use fault::FaultDisplay;
 use std::env;
@@ -36,11 +38,27 @@ fn tell(rt: &LibcRuntime, name: &str, tally: Tally) -> Result<(), AnyError> {
     Ok(())
 }
 
+// The line of a byte, and below it a caret under the byte.
+fn show_place(rt: &LibcRuntime, text: &[u8], byte: usize) -> Result<(), AnyError> {
+    let start = line_start(text, byte);
+    let end = line_end(text, byte);
+    let mut line = String::new(rt.alloc());
+    for b in &text[start..end] {
+        line.push(shown(*b))?;
+    }
+    let mut caret = String::new(rt.alloc());
+    for _ in start..byte.min(text.len()) {
+        caret.push(' ')?;
+    }
+    println!(rt, "{line}")?;
+    println!(rt, "{caret}^")?;
+    Ok(())
+}
+
 // A fault in one line, with the script's line and a caret under the place below it.
 fn refuse(rt: &LibcRuntime, text: &Text, fault: Fault) -> Result<(), AnyError> {
     println!(rt, "{fault}")?;
-    let lines = excerpt(rt.alloc(), text.bytes(), fault.byte as usize)?;
-    print!(rt, "{lines}")?;
+    show_place(rt, text.bytes(), fault.byte as usize)?;
     Err("the script was refused".into())
 }
 
