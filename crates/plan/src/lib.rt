@@ -5,5 +5,4 @@ ghost use Rattle.plan.specs.Laws.{Plans-keep-types};
 // The law of planning: the plan of a typed expression has its type.
 pub fn plan_stands()
     ensures { λ _. ⌜ Plans-keep-types ⌝ }
-{
-}
+{}

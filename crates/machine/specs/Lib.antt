@@ -1,0 +1,4 @@
+pub mod Runs
+pub mod Specimens
+pub mod State
+pub mod Steps
