@@ -27,7 +27,7 @@ use Rattle.tree.specs.declared.nodes.What.the-variants as what
 use Rattle.phrases.specs.Held.{Held, leafLevel}
 use Rattle.phrases.specs.Leaves.{within, spanOf, integerOf, leafNode}
 use Rattle.phrases.specs.Places.{Spells, TellsAhead, paysAhead}
-use Rattle.phrases.proofs.Scans.{pays-some}
+use Rattle.phrases.specs.Sorts.{leafPays}
 use Rattle.phrases.specs.States.{before}
 
 -- a number in range is itself
@@ -156,6 +156,80 @@ leaf-refused constantLeaf (Some (name x)) p s e = refl
 leaf-refused constantLeaf (Some (broken v)) p s e = refl
 
 -- it is a token, which pays for its node
-pub leaf-pays : (l : Leaf) (k : Option Terminal) (n : ℕ) (w : What) → Some w ≡ leafNode l k n → 1 ≤ paysAhead k
-leaf-pays l (Some t) n w e = pays-some t
+pub leaf-pays : (l : Leaf) (k : Option Terminal) (n : ℕ) (w : What) → Some w ≡ leafNode l k n → leafPays l ≤ paysAhead k
 leaf-pays l None n w e = absurd (let z : _≡_ {A = ℕ} 0 1 = cc in omega arith)
+leaf-pays nameLeaf (Some (word v)) n w e = absurd (let z : _≡_ {A = ℕ} 0 1 = cc in omega arith)
+leaf-pays nameLeaf (Some (sign v)) n w e = absurd (let z : _≡_ {A = ℕ} 0 1 = cc in omega arith)
+leaf-pays nameLeaf (Some (domain v)) n w e = absurd (let z : _≡_ {A = ℕ} 0 1 = cc in omega arith)
+leaf-pays nameLeaf (Some (logic v)) n w e = absurd (let z : _≡_ {A = ℕ} 0 1 = cc in omega arith)
+leaf-pays nameLeaf (Some (comparison v)) n w e = absurd (let z : _≡_ {A = ℕ} 0 1 = cc in omega arith)
+leaf-pays nameLeaf (Some (sum v)) n w e = absurd (let z : _≡_ {A = ℕ} 0 1 = cc in omega arith)
+leaf-pays nameLeaf (Some (product v)) n w e = absurd (let z : _≡_ {A = ℕ} 0 1 = cc in omega arith)
+leaf-pays nameLeaf (Some (truth v)) n w e = absurd (let z : _≡_ {A = ℕ} 0 1 = cc in omega arith)
+leaf-pays nameLeaf (Some (integer v)) n w e = absurd (let z : _≡_ {A = ℕ} 0 1 = cc in omega arith)
+leaf-pays nameLeaf (Some (string v)) n w e = absurd (let z : _≡_ {A = ℕ} 0 1 = cc in omega arith)
+leaf-pays nameLeaf (Some (name v)) n w e = omega arith
+leaf-pays nameLeaf (Some (broken v)) n w e = absurd (let z : _≡_ {A = ℕ} 0 1 = cc in omega arith)
+leaf-pays typeLeaf (Some (word v)) n w e = absurd (let z : _≡_ {A = ℕ} 0 1 = cc in omega arith)
+leaf-pays typeLeaf (Some (sign v)) n w e = absurd (let z : _≡_ {A = ℕ} 0 1 = cc in omega arith)
+leaf-pays typeLeaf (Some (domain v)) n w e = omega arith
+leaf-pays typeLeaf (Some (logic v)) n w e = absurd (let z : _≡_ {A = ℕ} 0 1 = cc in omega arith)
+leaf-pays typeLeaf (Some (comparison v)) n w e = absurd (let z : _≡_ {A = ℕ} 0 1 = cc in omega arith)
+leaf-pays typeLeaf (Some (sum v)) n w e = absurd (let z : _≡_ {A = ℕ} 0 1 = cc in omega arith)
+leaf-pays typeLeaf (Some (product v)) n w e = absurd (let z : _≡_ {A = ℕ} 0 1 = cc in omega arith)
+leaf-pays typeLeaf (Some (truth v)) n w e = absurd (let z : _≡_ {A = ℕ} 0 1 = cc in omega arith)
+leaf-pays typeLeaf (Some (integer v)) n w e = absurd (let z : _≡_ {A = ℕ} 0 1 = cc in omega arith)
+leaf-pays typeLeaf (Some (string v)) n w e = absurd (let z : _≡_ {A = ℕ} 0 1 = cc in omega arith)
+leaf-pays typeLeaf (Some (name v)) n w e = absurd (let z : _≡_ {A = ℕ} 0 1 = cc in omega arith)
+leaf-pays typeLeaf (Some (broken v)) n w e = absurd (let z : _≡_ {A = ℕ} 0 1 = cc in omega arith)
+leaf-pays constantLeaf (Some (word v)) n w e = absurd (let z : _≡_ {A = ℕ} 0 1 = cc in omega arith)
+leaf-pays constantLeaf (Some (sign v)) n w e = absurd (let z : _≡_ {A = ℕ} 0 1 = cc in omega arith)
+leaf-pays constantLeaf (Some (domain v)) n w e = absurd (let z : _≡_ {A = ℕ} 0 1 = cc in omega arith)
+leaf-pays constantLeaf (Some (logic v)) n w e = absurd (let z : _≡_ {A = ℕ} 0 1 = cc in omega arith)
+leaf-pays constantLeaf (Some (comparison v)) n w e = absurd (let z : _≡_ {A = ℕ} 0 1 = cc in omega arith)
+leaf-pays constantLeaf (Some (sum v)) n w e = absurd (let z : _≡_ {A = ℕ} 0 1 = cc in omega arith)
+leaf-pays constantLeaf (Some (product v)) n w e = absurd (let z : _≡_ {A = ℕ} 0 1 = cc in omega arith)
+leaf-pays constantLeaf (Some (truth v)) n w e = omega arith
+leaf-pays constantLeaf (Some (integer v)) n w e = omega arith
+leaf-pays constantLeaf (Some (string v)) n w e = omega arith
+leaf-pays constantLeaf (Some (name v)) n w e = absurd (let z : _≡_ {A = ℕ} 0 1 = cc in omega arith)
+leaf-pays constantLeaf (Some (broken v)) n w e = absurd (let z : _≡_ {A = ℕ} 0 1 = cc in omega arith)
+
+pub leaf-some : (l : Leaf) → 1 ≤ leafPays l
+leaf-some nameLeaf = omega arith
+leaf-some typeLeaf = omega arith
+leaf-some constantLeaf = omega arith
+
+-- a type that is read is the token's
+pub type-read : (k : Option Terminal) (p : Place) (s : List Token) (t : Part) (r : List Token) → readLeaf typeLeaf (before k p s) ≡ found t r → (d : Domain) × (t ≡ typePart (typed d p))
+unfolding readLeaf
+type-read None p s t r e = absurd (let z : _≡_ {A = ℕ} 0 1 = cc in omega arith)
+type-read (Some (word v)) p s t r e = absurd (let z : _≡_ {A = ℕ} 0 1 = cc in omega arith)
+type-read (Some (sign v)) p s t r e = absurd (let z : _≡_ {A = ℕ} 0 1 = cc in omega arith)
+type-read (Some (domain v)) p s t r e = (v, cc)
+type-read (Some (logic v)) p s t r e = absurd (let z : _≡_ {A = ℕ} 0 1 = cc in omega arith)
+type-read (Some (comparison v)) p s t r e = absurd (let z : _≡_ {A = ℕ} 0 1 = cc in omega arith)
+type-read (Some (sum v)) p s t r e = absurd (let z : _≡_ {A = ℕ} 0 1 = cc in omega arith)
+type-read (Some (product v)) p s t r e = absurd (let z : _≡_ {A = ℕ} 0 1 = cc in omega arith)
+type-read (Some (truth v)) p s t r e = absurd (let z : _≡_ {A = ℕ} 0 1 = cc in omega arith)
+type-read (Some (integer v)) p s t r e = absurd (let z : _≡_ {A = ℕ} 0 1 = cc in omega arith)
+type-read (Some (string v)) p s t r e = absurd (let z : _≡_ {A = ℕ} 0 1 = cc in omega arith)
+type-read (Some (name v)) p s t r e = absurd (let z : _≡_ {A = ℕ} 0 1 = cc in omega arith)
+type-read (Some (broken v)) p s t r e = absurd (let z : _≡_ {A = ℕ} 0 1 = cc in omega arith)
+
+-- a name that is read is the token's
+pub name-read : (k : Option Terminal) (p : Place) (s : List Token) (t : Part) (r : List Token) → readLeaf nameLeaf (before k p s) ≡ found t r → (x : Bytes) × (t ≡ namePart (named x p))
+unfolding readLeaf
+name-read None p s t r e = absurd (let z : _≡_ {A = ℕ} 0 1 = cc in omega arith)
+name-read (Some (word v)) p s t r e = absurd (let z : _≡_ {A = ℕ} 0 1 = cc in omega arith)
+name-read (Some (sign v)) p s t r e = absurd (let z : _≡_ {A = ℕ} 0 1 = cc in omega arith)
+name-read (Some (domain v)) p s t r e = absurd (let z : _≡_ {A = ℕ} 0 1 = cc in omega arith)
+name-read (Some (logic v)) p s t r e = absurd (let z : _≡_ {A = ℕ} 0 1 = cc in omega arith)
+name-read (Some (comparison v)) p s t r e = absurd (let z : _≡_ {A = ℕ} 0 1 = cc in omega arith)
+name-read (Some (sum v)) p s t r e = absurd (let z : _≡_ {A = ℕ} 0 1 = cc in omega arith)
+name-read (Some (product v)) p s t r e = absurd (let z : _≡_ {A = ℕ} 0 1 = cc in omega arith)
+name-read (Some (truth v)) p s t r e = absurd (let z : _≡_ {A = ℕ} 0 1 = cc in omega arith)
+name-read (Some (integer v)) p s t r e = absurd (let z : _≡_ {A = ℕ} 0 1 = cc in omega arith)
+name-read (Some (string v)) p s t r e = absurd (let z : _≡_ {A = ℕ} 0 1 = cc in omega arith)
+name-read (Some (name v)) p s t r e = (v, cc)
+name-read (Some (broken v)) p s t r e = absurd (let z : _≡_ {A = ℕ} 0 1 = cc in omega arith)

@@ -11,6 +11,8 @@ use lib.ListN.{length, take, drop, set}
 use Rattle.std.proofs.shelf.Tests.{le-leb}
 use Rattle.std.specs.declared.option.Option.{Option}
 use Rattle.std.specs.declared.option.Option.the-variants.{Some, None}
+use Rattle.std.specs.Results.{Cases}
+use Rattle.std.specs.declared.result.Result.{Result}
 use Rattle.std.specs.declared.result.Result.the-variants.{Ok, Err}
 use Rattle.fault.specs.declared.rules.Fault.{Fault}
 use Rattle.words.specs.Tokens.{Bytes, Place, Token}
@@ -71,3 +73,31 @@ refusal P text o from a b xs ys f h = h
 pub to-refusal : (P : Holding) (text : Bytes) (o : Outcome) (from : ℕ) (a b : Parser) (xs ys : List Node) (f x : Fault) → f ≡ x → refusedBy (endOf text) o ≡ some x → Answers P text o from a b xs ys (Err f)
 unfolding Answers
 to-refusal P text o from a b xs ys f x e h = h ∙ ap some (sym e)
+
+-- what a call leaves to the next one is the whole's
+pub answers-later : (P : Holding) (text : Bytes) (o q : Outcome) (from : ℕ) (a b c : Parser) (xs ys zs : List Node) (r : Result ℕ Fault) →
+    o ≡ q → Below from xs ys → Beyond (b .count) xs ys → Cases r (λ _. NumbersOn b c) (λ _. Unit {0}) → Answers P text q from b c ys zs r → Answers P text o from a c xs zs r
+unfolding Answers
+answers-later P text o q from a b c xs ys zs (Ok i) e below beyond n d =
+    record {
+      part = d .part;
+      value = e ∙ d .value;
+      grounded = d .grounded;
+      below = below-then from from xs ys zs (omega arith) below (d .below);
+      beyond = beyond-then (b .count) (c .count) xs ys zs (n .grown) beyond (d .beyond);
+      holds = d .holds;
+    }
+answers-later P text o q from a b c xs ys zs (Err f) e below beyond n d = ap (refusedBy (endOf text)) e ∙ d
+
+-- numbers of a whole by those of its parts
+pub numbers-on : (b c : Parser) (r : Result ℕ Fault) → Cases r (λ _. Numbers b c) (λ _. Unit {0}) → Cases r (λ _. NumbersOn b c) (λ _. Unit {0})
+numbers-on b c (Ok i) n = record { thrifty = n .thrifty; onward = omega (arith, n .onward); grown = omega (arith, n .grown) }
+numbers-on b c (Err f) n = tt
+
+pub numbers-later : (a b c : Parser) (r : Result ℕ Fault) → b .count + worth b ≤ a .count + worth a → worth b < worth a → a .count < b .count → Cases r (λ _. NumbersOn b c) (λ _. Unit {0}) → Cases r (λ _. Numbers a c) (λ _. Unit {0})
+numbers-later a b c (Ok i) h k l n = record { thrifty = omega (arith, h, n .thrifty); onward = omega (arith, k, n .onward); grown = omega (arith, l, n .grown) }
+numbers-later a b c (Err f) h k l n = tt
+
+pub numbers-on-later : (a b c : Parser) (r : Result ℕ Fault) → b .count + worth b ≤ a .count + worth a → worth b ≤ worth a → a .count ≤ b .count → Cases r (λ _. NumbersOn b c) (λ _. Unit {0}) → Cases r (λ _. NumbersOn a c) (λ _. Unit {0})
+numbers-on-later a b c (Ok i) h k l n = record { thrifty = omega (arith, h, n .thrifty); onward = omega (arith, k, n .onward); grown = omega (arith, l, n .grown) }
+numbers-on-later a b c (Err f) h k l n = tt

@@ -28,11 +28,11 @@ use Rattle.words.specs.Tokens.{Terminal.sum, Terminal.product, Terminal.truth, 
 use Rattle.words.specs.Views.{heard, spoken, standing, weight}
 use Rattle.grammar.specs.Parts.{Part, sameAs, origin, placePart, codeIn}
 use Rattle.grammar.specs.Promise.{placeIn, refusalIn}
-use Rattle.grammar.specs.Readers.{Cause, Cause.cannotFollow, Cause.tooDeep, Outcome, Outcome.found as read, Outcome.refusedAt, andThen, expectIf, expectToken, told}
+use Rattle.grammar.specs.Readers.{Reader, Cause, Cause.cannotFollow, Cause.tooDeep, Outcome, Outcome.found as read, Outcome.refusedAt, andThen, expectIf, expectToken, told}
 use Rattle.phrases.specs.declared.parsers.Parser.{Parser}
 use Rattle.phrases.specs.Places.{paysAhead, pays, following, Lies, TellsAhead}
-use Rattle.phrases.specs.States.{before, behind, tokensAhead, aheadAt, codeAhead, Grounded, faultAt, brokenAt, brokenIn, refusedBy, Stepped, Expected, Answers, Holding}
-use Rattle.phrases.proofs.Scans.{Sees, next-sees, following-next}
+use Rattle.phrases.specs.States.{before, behind, tokensAhead, aheadAt, codeAhead, Grounded, faultAt, brokenAt, brokenIn, refusedBy, Halts, opened, Opened, Stepped, Expected, Answers, Holding}
+use Rattle.phrases.proofs.Scans.{Sees, next-sees, following-next, pays-some}
 use Rattle.tree.specs.declared.nodes.Node.{Node}
 
 -- a token takes what it pays for
@@ -100,14 +100,12 @@ fault-eq r q p w e f = ap (λ i. faultAt i p) e ∙ ap (faultAt q) f
 
 -- the refusal of the token ahead is the parser's fault
 pub refuses : (text : Bytes) (a : Parser) → Grounded text a → refusedBy (endOf text) (refusedAt cannotFollow (tokensAhead a)) ≡ some (faultAt CannotFollow (aheadAt a))
+unfolding refusedBy
 refuses text a g = ap some (fault-eq _ _ _ _ (told-before (a .ahead .token) (aheadAt a) (behind a)) (place-ahead text a g))
 
 pub too-deep : (text : Bytes) (a : Parser) → Grounded text a → refusedBy (endOf text) (refusedAt tooDeep (tokensAhead a)) ≡ some (faultAt TooDeep (aheadAt a))
+unfolding refusedBy
 too-deep text a g = ap some (ap (faultAt TooDeep) (place-ahead text a g))
-
--- a reader that gives back what is no token, or refuses there
-abbrev pub Halts : Place → (List Token → Outcome) → Type 0
-Halts end g = (c : Rule) (p : Place) (q : List Token) → refusedBy end (g ((broken c at p) ∷ q)) ≡ some (faultAt c p)
 
 -- such a reader refuses what the scanner refuses
 pub refused-ahead : (end : Place) (g : List Token → Outcome) (s : List Token) (f : Fault) → Halts end g → brokenIn s ≡ some f → refusedBy end (g s) ≡ some f
@@ -127,6 +125,7 @@ refused-ahead end g ((name w at p) ∷ q) f h e = absurd (let z : _≡_ {A = ℕ
 
 -- a reading whose first part is refused
 pub refused-first : (end : Place) (x : Outcome) (g : Part → List Token → Outcome) (f : Fault) → ((t : Part) → Halts end (g t)) → refusedBy end x ≡ some f → refusedBy end (andThen x g) ≡ some f
+unfolding refusedBy
 refused-first end (refusedAt c r) g f h e = e
 refused-first end (read t r) g f h e = refused-ahead end (g t) r f (h t) e
 
@@ -137,6 +136,7 @@ refused-then end x t r g f e h = ap (λ i. refusedBy end (andThen i g)) e ∙ h
 -- a reading whose parts are found
 pub found-then : (x y : Outcome) (t : Part) (r : List Token) (g : Part → List Token → Outcome) → x ≡ read t r → g t r ≡ y → andThen x g ≡ y
 found-then x y t r g e h = ap (λ i. andThen i g) e ∙ h
+
 
 -- what a step has done
 pub stepped-ok : (text : Bytes) (a b : Parser) (u : Unit {0}) → Stepped text a b (Ok u) → (Grounded text b) × (tokensAhead b ≡ behind a)
@@ -154,7 +154,7 @@ stepped-broken text a b f h = h
 -- the word or sign was there
 same-number : (text : Bytes) (w : Terminal) (a b : Parser) (t : Option Terminal) (r : Result (Unit {0}) Fault) → Grounded text a → eqb (codeIn w) (codeAhead t) ≡ true → spoken (a .ahead .token) ≡ t → codeIn w < 29 →
     Stepped text a b r → Expected text w a b r
-unfolding Stepped Expected expectToken
+unfolding refusedBy Stepped Expected expectToken
 same-number text w a b None r g e i l h = absurd (let z = eqb-true (codeIn w) 29 e in omega (arith, z, l))
 same-number text w a b (Some v) (Ok u) g e i l (k, q) = (k, rw (i, e) (ap (read (placePart (aheadAt a))) (sym q)))
 same-number text w a b (Some v) (Err f) g e i l q = rw (i, e) q
@@ -162,7 +162,7 @@ same-number text w a b (Some v) (Err f) g e i l q = rw (i, e) q
 -- another token was there
 other-number : (text : Bytes) (w : Terminal) (a b : Parser) (t : Option Terminal) → Grounded text a → eqb (codeIn w) (codeAhead t) ≡ false → spoken (a .ahead .token) ≡ t →
     Expected text w a b (Err (faultAt CannotFollow (aheadAt a)))
-unfolding Expected expectToken
+unfolding refusedBy Expected expectToken
 other-number text w a b None g e i = let h = refuses text a g in rw i (rw i at h)
 other-number text w a b (Some v) g e i = let h = refuses text a g in rw (i, e) (rw i at h)
 
@@ -206,14 +206,19 @@ code-small (string x) = omega arith
 code-small (name x) = omega arith
 code-small (broken r) = omega arith
 
-pub expected-there : (text : Bytes) (w : Terminal) (v : Option Terminal) (a b : Parser) (r : Result (Unit {0}) Fault) → Grounded text a → v ≡ Some w → eqb (codeAhead v) (codeAhead (spoken (a .ahead .token))) ≡ true →
+pub expected-there : (text : Bytes) (w : Terminal) (a b : Parser) (r : Result (Unit {0}) Fault) → Grounded text a → eqb (codeIn w) (codeAhead (spoken (a .ahead .token))) ≡ true →
     Stepped text a b r → Expected text w a b r
-expected-there text w v a b r g i e h = same-number text w a b (spoken (a .ahead .token)) r g (subst (λ j. eqb (codeAhead j) (codeAhead (spoken (a .ahead .token))) ≡ true) i e) refl (code-small w) h
+expected-there text w a b r g e h = same-number text w a b (spoken (a .ahead .token)) r g e refl (code-small w) h
 
-pub expected-else : (text : Bytes) (w : Terminal) (v : Option Terminal) (a b : Parser) (f : Fault) → Grounded text a → v ≡ Some w → eqb (codeAhead v) (codeAhead (spoken (a .ahead .token))) ≡ false → f ≡ faultAt CannotFollow (aheadAt a) →
+pub expected-else : (text : Bytes) (w : Terminal) (a b : Parser) (f : Fault) → Grounded text a → eqb (codeIn w) (codeAhead (spoken (a .ahead .token))) ≡ false → f ≡ faultAt CannotFollow (aheadAt a) →
     Expected text w a b (Err f)
-expected-else text w v a b f g i e h =
-    subst (λ j. Expected text w a b (Err j)) (sym h) (other-number text w a b (spoken (a .ahead .token)) g (subst (λ j. eqb (codeAhead j) (codeAhead (spoken (a .ahead .token))) ≡ false) i e) refl)
+expected-else text w a b f g e h =
+    subst (λ j. Expected text w a b (Err j)) (sym h) (other-number text w a b (spoken (a .ahead .token)) g e refl)
+
+-- a word or sign that is there is a token
+pub code-pays : (w : Terminal) (k : Option Terminal) → eqb (codeIn w) (codeAhead k) ≡ true → 1 ≤ paysAhead k
+code-pays w (Some t) e = pays-some t
+code-pays w None e = absurd (let z = eqb-true (codeIn w) 29 e in let l = code-small w in omega (arith, z, l))
 
 -- what an expected token has done
 pub expected-ok : (text : Bytes) (w : Terminal) (a b : Parser) (u : Unit {0}) → Expected text w a b (Ok u) → (Grounded text b) × (expectToken (w at origin) (tokensAhead a) ≡ read (placePart (aheadAt a)) (tokensAhead b))
@@ -223,3 +228,67 @@ expected-ok text w a b u h = h
 pub expected-broken : (text : Bytes) (w : Terminal) (a b : Parser) (f : Fault) → Expected text w a b (Err f) → refusedBy (endOf text) (expectToken (w at origin) (tokensAhead a)) ≡ some f
 unfolding Expected
 expected-broken text w a b f h = h
+
+pub expected-err : (text : Bytes) (w : Terminal) (a b : Parser) (r : Result (Unit {0}) Fault) (y x : Fault) → r ≡ Err y → y ≡ x → refusedBy (endOf text) (expectToken (w at origin) (tokensAhead a)) ≡ some x → Expected text w a b r
+unfolding Expected
+expected-err text w a b (Ok u) y x e i h = absurd (let z : _≡_ {A = ℕ} 0 1 = cc in omega arith)
+expected-err text w a b (Err f) y x e i h = let g : x ≡ f = cc in h ∙ ap some g
+
+-- a reading that has found its part comes to what is no token, if that stands next
+pub found-broken : (end : Place) (o : Outcome) (t : Part) (s : List Token) (f : Fault) → o ≡ read t s → brokenIn s ≡ some f → refusedBy end o ≡ some f
+unfolding refusedBy
+found-broken end o t s f e h = ap (refusedBy end) e ∙ h
+
+-- a reader on tokens by another name
+pub refused-at : (end : Place) (f : Reader) (s r : List Token) (x : Fault) → s ≡ r → refusedBy end (f s) ≡ some x → refusedBy end (f r) ≡ some x
+refused-at end f s r x e h = subst (λ i. refusedBy end (f i) ≡ some x) e h
+
+pub read-at : (f : Reader) (s r : List Token) (t : Part) (q : List Token) → s ≡ r → f s ≡ read t q → f r ≡ read t q
+read-at f s r t q e h = subst (λ i. f i ≡ read t q) e h
+
+-- a token that is there is paid for
+pub paid-less : {A B : Type 0} (r : Result A B) (m n k : ℕ) → 1 ≤ k → Cases r (λ _. m + k ≤ n) (λ _. Unit {0}) → Cases r (λ _. m < n) (λ _. Unit {0})
+paid-less (Ok a) m n k h e = omega (arith, h, e)
+paid-less (Err b) m n k h e = tt
+
+-- no depth is left
+pub opened-none : (text : Bytes) (n : ℕ) (a b : Parser) (f : Fault) → n ≡ 0 → 0 < paysAhead (spoken (a .ahead .token)) → Grounded text a → f ≡ faultAt TooDeep (aheadAt a) → Opened text n a b (Err f)
+unfolding Opened opened
+opened-none text n a b f z live g e h k =
+    subst (λ m. refusedBy (endOf text) (opened m h (tokensAhead a)) ≡ some f) (sym z) (subst (λ x. refusedBy (endOf text) (opened 0 h (tokensAhead a)) ≡ some x) (sym e) (ap (refusedBy (endOf text)) (closed (spoken (a .ahead .token)) live) ∙ too-deep text a g))
+  where
+    closed : (t : Option Terminal) → 0 < paysAhead t → opened 0 h (before t (aheadAt a) (behind a)) ≡ refusedAt tooDeep (before t (aheadAt a) (behind a))
+    closed None l = absurd (let y : ⊥ = omega arith in y)
+    closed (Some t) l = refl
+
+-- what is no token stands behind the opening one
+pub opened-broken : (text : Bytes) (n m : ℕ) (a b : Parser) (r : Result ℕ Fault) (y x : Fault) → n ≡ suc m → 0 < paysAhead (spoken (a .ahead .token)) → r ≡ Err y → y ≡ x → brokenIn (behind a) ≡ some x → Opened text n a b r
+unfolding Opened opened
+opened-broken text n m a b (Ok i) y x z l e i2 h = absurd (let w : _≡_ {A = ℕ} 0 1 = cc in omega arith)
+opened-broken text n m a b (Err f) y x z l e i h = λ g k. let j : x ≡ f = cc in
+    subst (λ q. refusedBy (endOf text) (opened q g (tokensAhead a)) ≡ some f) (sym z) (go g k (spoken (a .ahead .token)) l ∙ ap some j)
+  where
+    go : (g : ℕ → Place → Reader) → ((m : ℕ) (p : Place) → Halts (endOf text) (g m p)) → (t : Option Terminal) → 0 < paysAhead t → refusedBy (endOf text) (opened (suc m) g (before t (aheadAt a) (behind a))) ≡ some x
+    go g k None l = absurd (let y : ⊥ = omega arith in y)
+    go g k (Some t) l = refused-ahead (endOf text) (g m (aheadAt a)) (behind a) x (k m (aheadAt a)) h
+
+pub to-opened : (text : Bytes) (n m : ℕ) (a b : Parser) → n ≡ suc m → Stepped text a b (Ok tt) → Opened text n a b (Ok m)
+unfolding Opened Stepped
+to-opened text n m a b e (g, h) = (e, g, h)
+
+pub opened-ok : (text : Bytes) (n m : ℕ) (a b : Parser) → Opened text n a b (Ok m) → (n ≡ suc m) × (Grounded text b) × (tokensAhead b ≡ behind a)
+unfolding Opened
+opened-ok text n m a b h = h
+
+pub opened-err : (text : Bytes) (n : ℕ) (a b : Parser) (f : Fault) (g : ℕ → Place → Reader) → ((m : ℕ) (p : Place) → Halts (endOf text) (g m p)) → Opened text n a b (Err f) → refusedBy (endOf text) (opened n g (tokensAhead a)) ≡ some f
+unfolding Opened
+opened-err text n a b f g k h = h g k
+
+-- behind the opening token, by what is read there
+pub opened-is : (n m : ℕ) (g : ℕ → Place → Reader) (a : Parser) (s : List Token) → n ≡ suc m → 0 < paysAhead (spoken (a .ahead .token)) → s ≡ behind a → opened n g (tokensAhead a) ≡ g m (aheadAt a) s
+unfolding opened
+opened-is n m g a s e l h = subst (λ q. opened q g (tokensAhead a) ≡ g m (aheadAt a) s) (sym e) (go (spoken (a .ahead .token)) l)
+  where
+    go : (t : Option Terminal) → 0 < paysAhead t → opened (suc m) g (before t (aheadAt a) (behind a)) ≡ g m (aheadAt a) s
+    go None l = absurd (let y : ⊥ = omega arith in y)
+    go (Some t) l = ap (g m (aheadAt a)) (sym h)

@@ -1,5 +1,5 @@
 -- The parser's state as the grammar sees it, and what a step of it does.
-use Prim.Native.Nat.{ℕ, _+_, _<_, _≤_}
+use Prim.Native.Nat.{ℕ, zero, suc, _+_, _<_, _≤_}
 use mathlib.Core.List.{List, [], _∷_}
 use mathlib.Core.Option.{Option as Maybe, none, some}
 use mathlib.Core.Path.{_≡_}
@@ -17,7 +17,8 @@ use Rattle.words.specs.Views.{spoken, standing}
 use Rattle.words.specs.declared.tokens.Lexeme.{Lexeme}
 use Rattle.grammar.specs.Parts.{Part, codeIn, origin, placePart}
 use Rattle.grammar.specs.Promise.{placeIn}
-use Rattle.grammar.specs.Readers.{Outcome, Outcome.found, Outcome.refusedAt, Reader, expectToken, told}
+use Rattle.grammar.specs.Readers.{Cause.cannotFollow, Cause.tooDeep, Outcome, Outcome.found, Outcome.refusedAt, Reader, expectToken, told}
+use Rattle.grammar.specs.Parts.{placeOf}
 use Rattle.tree.specs.Kept.{Below, Beyond}
 use Rattle.tree.specs.declared.nodes.Node.{Node}
 use Rattle.tree.specs.declared.nodes.What.{What}
@@ -81,9 +82,13 @@ brokenIn [] = none
 brokenIn ((t at p) ∷ s) = brokenAt t p
 
 -- the fault that a reading comes to: its refusal, or what is no token next, which stops the scanner
-abbrev pub refusedBy : Place → Outcome → Maybe Fault
+unfoldable pub refusedBy : Place → Outcome → Maybe Fault
 refusedBy end (refusedAt c r) = some (faultAt (told c r) (placeIn end r))
 refusedBy end (found t r) = brokenIn r
+
+-- a reader that gives back what is no token, or refuses there
+abbrev pub Halts : Place → Reader → Type 0
+Halts end g = (c : Rule) (p : Place) (q : List Token) → refusedBy end (g ((broken c at p) ∷ q)) ≡ some (faultAt c p)
 
 -- one token on
 unfoldable pub Stepped : Bytes → Parser → Parser → Result (Unit {0}) Fault → Type 0
@@ -94,6 +99,17 @@ Stepped text a b (Err f) = brokenIn (behind a) ≡ some f
 unfoldable pub Expected : Bytes → Terminal → Parser → Parser → Result (Unit {0}) Fault → Type 0
 Expected text w a b (Ok u) = (Grounded text b) × (expectToken (w at origin) (tokensAhead a) ≡ found (placePart (aheadAt a)) (tokensAhead b))
 Expected text w a b (Err f) = refusedBy (endOf text) (expectToken (w at origin) (tokensAhead a)) ≡ some f
+
+-- behind a token that opens a depth, where n may still be opened
+unfoldable pub opened : ℕ → (ℕ → Place → Reader) → Reader
+opened n g [] = refusedAt cannotFollow []
+opened zero g (k ∷ s) = refusedAt tooDeep (k ∷ s)
+opened (suc n) g (k ∷ s) = g n (placeOf k) s
+
+-- a depth is opened, and its token passed
+unfoldable pub Opened : Bytes → ℕ → Parser → Parser → Result ℕ Fault → Type 0
+Opened text n a b (Ok m) = (n ≡ suc m) × (Grounded text b) × (tokensAhead b ≡ behind a)
+Opened text n a b (Err f) = (g : ℕ → Place → Reader) → ((m : ℕ) (p : Place) → Halts (endOf text) (g m p)) → refusedBy (endOf text) (opened n g (tokensAhead a)) ≡ some f
 
 -- one node more is taken
 abbrev pub counted : Parser → Parser
@@ -106,7 +122,7 @@ newNode w p = record { what = w; line = p .line; byte = p .byte; next = 0 }
 pub record Numbers (a b : Parser) : Type 0 where
   pub thrifty : b .count + worth b ≤ a .count + worth a
   pub onward : worth b < worth a
-  pub grown : a .count ≤ b .count
+  pub grown : a .count < b .count
 
 -- the same, where perhaps no token is read
 pub record NumbersOn (a b : Parser) : Type 0 where

@@ -9,7 +9,7 @@ ghost use Rattle.grammar.specs.Readers.{readLeaf};
 ghost use Rattle.words.specs.Views.{spoken};
 ghost use Rattle.phrases.specs.Held.{Held, leafLevel};
 ghost use Rattle.phrases.specs.Leaves.{within, spanOf, integerOf, leafNode};
-ghost use Rattle.phrases.specs.Sorts.{leafOf};
+ghost use Rattle.phrases.specs.Sorts.{leafOf, leafPays};
 ghost use Rattle.phrases.specs.States.{worth, Numbers, Follows};
 use crate::parsers::Parser;
 use crate::sorts::Leaf;
@@ -76,6 +76,7 @@ pub fn leaf<'a>(parser: &mut Parser<'a>, nodes: &mut [Node], leaf: Leaf) -> Resu
     requires room { ⌜ now parser .count + worth (now parser) ≤ nodes-limit ⌝ }
     requires fits { ⌜ nodes-limit ≤ length (now nodes) ⌝ }
     ensures numbers { λ r. ⌜ Cases r (λ _. Numbers (now (parser .entry)) (now (parser .exit))) (λ _. Unit {0}) ⌝ }
+    ensures spare { λ r. ⌜ Cases r (λ _. now (parser .exit) .count + worth (now (parser .exit)) + leafPays (leafOf leaf) ≤ now (parser .entry) .count + worth (now (parser .entry)) + 1) (λ _. Unit {0}) ⌝ }
     ensures answer { λ r. ⌜ Follows (Held (leafLevel (leafOf leaf))) (readLeaf (leafOf leaf)) (now (parser .entry)) (now (parser .exit)) (now (nodes .entry)) (now (nodes .exit)) r ⌝ }
 {
     let at = parser.ahead;

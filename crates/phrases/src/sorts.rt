@@ -1,4 +1,13 @@
-// Which phrase is due: the sorts of leaves and of lists.
+// Which phrase is due: a word or sign, a sort of leaf, a sort of list.
+use words::Sign;
+use words::Word;
+
+#[derive(Clone, Copy)]
+pub enum Wanted {
+    Word(Word),
+    Sign(Sign),
+}
+
 #[derive(Clone, Copy)]
 pub enum Leaf {
     Name,

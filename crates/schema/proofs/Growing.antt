@@ -71,3 +71,14 @@ nth-front room n position whole few inside =
     let size : length (take n room) ≡ n = length-take-le n room (omega (arith, whole)) in
     let within : ltb position (length (take n room)) ≡ true = grind (arith, tells, size) in
     sym (ap (λ b. cond b (Some (getD (take n room) position blank)) None) within ∙ ap Some (getD-take n room position blank inside))
+
+-- With one more, there are not too many.
+pub one-length : (before after : List Attribute) (a : Attribute) → Some after ≡ withOne before a → length after ≤ columns
+one-length before after a h = by (ltb (length before) columns) refl h
+  where
+    some-in : {x y : List Attribute} → _≡_ {A = Option (List Attribute)} (Some x) (Some y) → x ≡ y
+    some-in h = cc
+
+    by : (b : Bool) → ltb (length before) columns ≡ b → Some after ≡ cond b (Some (before ++ (a ∷ []))) None → length after ≤ columns
+    by true few e = grind (arith, tells, ap length (some-in e), length-append before (a ∷ []))
+    by false many e = let z : _≡_ {A = ℕ} 0 1 = cc in absurd (omega arith)

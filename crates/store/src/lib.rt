@@ -4,6 +4,7 @@
 pub mod calls;
 pub mod refusals;
 pub mod row_store;
+pub mod shown;
 
 pub use calls::Answer;
 pub use calls::Call;
@@ -11,3 +12,4 @@ pub use calls::perform;
 pub use calls::perform_all;
 pub use refusals::refuse;
 pub use row_store::RowStore;
+pub use shown::AnswerDisplay;

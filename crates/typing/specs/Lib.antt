@@ -3,4 +3,6 @@ pub mod Tables
 pub mod Typing
 pub mod Failing
 pub mod Checker
+pub mod Nesting
 pub mod Promise
+pub mod Specimens

@@ -1,0 +1,10 @@
+pub mod Walks
+pub mod Writing
+pub mod RowLoops
+pub mod Stretches
+pub mod Joining
+pub mod Keeping
+pub mod Moving
+pub mod Reading
+pub mod Fields
+pub mod Extending

@@ -1,0 +1,4 @@
+pub mod Readings
+pub mod Factors
+pub mod Nodes
+pub mod Calls

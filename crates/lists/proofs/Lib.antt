@@ -1,0 +1,4 @@
+pub mod Walking
+mod Fitting
+mod Counting
+mod Renaming

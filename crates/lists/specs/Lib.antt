@@ -1,0 +1,3 @@
+pub mod Links
+pub mod Elements
+pub mod Naming
