@@ -46,6 +46,8 @@ use Rattle.expressions.specs.declared.sorts.Start.the-variants as start
 use Rattle.expressions.specs.Starts.{startIn, turnIn, levelBehind}
 use Rattle.expressions.specs.Shapes.{levelOf, unaryOf, operandReader, levelReader, negationBehind, assignedReader, insideReader, unaryBehind, enclosedBehind, tableReader}
 use Rattle.std.specs.Results.{Cases}
+use Rattle.words.specs.declared.tokens.Sign.{Sign}
+use Rattle.expressions.specs.declared.sorts.Bracketed.{Bracketed}
 use Rattle.domain.specs.declared.Domain.{Domain}
 use Rattle.grammar.specs.Tree.{Name.named, AtomicType.typed}
 use Rattle.grammar.specs.Parts.{namePart, typePart}
@@ -60,7 +62,9 @@ use Rattle.words.specs.Views.{spoken}
 use Rattle.expressions.specs.declared.sorts.Bracketed.the-variants as bracketed
 use Rattle.expressions.specs.Starts.{bracketedOf}
 use Rattle.expressions.specs.Shapes.{Expressed, Assigned, Inside, argumentFor}
-use Rattle.expressions.proofs.Readings.{assigned-third, assigned-found, extend-second, extend-found}
+use Rattle.phrases.specs.declared.sorts.Listed.{Listed}
+use Rattle.phrases.specs.Sorts.{itemReader, levelOf as listLevel}
+use Rattle.expressions.proofs.Readings.{onward, assigned-third, assigned-found, extend-second, extend-found}
 use Rattle.expressions.proofs.Nodes.{assigned-held, extend-held}
 
 -- the same outcome by another name
@@ -73,7 +77,9 @@ pub done-passed : (P : Holding) (text : Bytes) (o q : Outcome) (from : ℕ) (a b
 unfolding Answers
 done-passed P text o q from a b d e xs ys i v f g k z =
     record {
-      part = v .part; value = z; grounded = k;
+      part = v .part;
+      value = z;
+      grounded = k;
       below = subst (λ n. Below n xs ys) f (v .below);
       beyond = subst (λ n. Beyond n xs ys) (sym g) (v .beyond);
       holds = subst (λ n. P text ys n (e .count) i (v .part)) f (subst (λ n. P text ys (b .count) n i (v .part)) (sym g) (v .holds));
@@ -143,3 +149,28 @@ argument-same unary.Exists = refl
 argument-same unary.All = refl
 argument-same unary.Update = refl
 argument-same unary.Extend = refl
+
+pub argument-of : (u : Unary) (b : Bracketed) → b ≡ bracketedOf u → argumentFor b ≡ argumentOf (unaryOf u)
+argument-of u b e = ap argumentFor e ∙ argument-same u
+
+-- a sign has a number of its own
+pub sign-code : (g : Sign) → codeOf (sign g at origin) < 28
+sign-code LeftParenthesis = omega arith
+sign-code RightParenthesis = omega arith
+sign-code LeftBracket = omega arith
+sign-code RightBracket = omega arith
+sign-code LeftBrace = omega arith
+sign-code RightBrace = omega arith
+sign-code Semicolon = omega arith
+sign-code Comma = omega arith
+sign-code Assign = omega arith
+
+-- a list of elements by another name of its sort
+pub instance-answers : (n : ℕ) (text : Bytes) (l k : Listed) (s : List Token) (from : ℕ) (a b : Parser) (xs ys : List Node) (r : Result ℕ Fault) → l ≡ k →
+    Answers (Held (listLevel l)) text (readLevel (itemReader n l) (bracketsAt anyToken n) (listLevel l) s) from a b xs ys r → Answers (Held (listLevel k)) text (readLevel (itemReader n k) (bracketsAt anyToken n) (listLevel k) s) from a b xs ys r
+instance-answers n text l k s from a b xs ys r e h = subst (λ j. Answers (Held (listLevel j)) text (readLevel (itemReader n j) (bracketsAt anyToken n) (listLevel j) s) from a b xs ys r) e h
+
+-- what follows, by another name of its level
+pub onward-answers : (n : ℕ) (text : Bytes) (l k : Rank) (t : Part) (s : List Token) (from : ℕ) (a b : Parser) (xs ys : List Node) (r : Result ℕ Fault) → l ≡ k →
+    Answers Expressed text (onward n l t s) from a b xs ys r → Answers Expressed text (onward n k t s) from a b xs ys r
+onward-answers n text l k t s from a b xs ys r e h = subst (λ j. Answers Expressed text (onward n j t s) from a b xs ys r) e h

@@ -428,11 +428,11 @@ argument-is n unary.Exists p s = then-assoc (expectToken leftBracket s) _ _ ∙ 
 argument-is n unary.All p s = then-assoc (expectToken leftBracket s) _ _ ∙ then-same (expectToken leftBracket s) _ _ (λ z r. then-assoc (insideReader n (argumentOf (unaryOf unary.All)) r) _ _ ∙ then-same (insideReader n (argumentOf (unaryOf unary.All)) r) _ _ (λ t q. then-assoc (expectToken rightBracket q) _ _))
 argument-is n unary.Update p s = then-assoc (expectToken leftBracket s) _ _ ∙ then-same (expectToken leftBracket s) _ _ (λ z r.
     then-assoc (readLeaf nameLeaf r) _ _ ∙ then-same (readLeaf nameLeaf r) _ _ (λ x q. then-assoc (expectToken assignToken q) _ _ ∙ then-same (expectToken assignToken q) _ _ (λ y o.
-        then-assoc (expressionsAt anyToken n o) _ _ ∙ then-same (expressionsAt anyToken n o) _ _ (λ t i. then-assoc (expectToken rightBracket i) _ _))) ∙
+    then-assoc (expressionsAt anyToken n o) _ _ ∙ then-same (expressionsAt anyToken n o) _ _ (λ t i. then-assoc (expectToken rightBracket i) _ _))) ∙
     sym (then-assoc (readLeaf nameLeaf r) _ _ ∙ then-same (readLeaf nameLeaf r) _ _ (λ x q. then-assoc (expectToken assignToken q) _ _ ∙ then-same (expectToken assignToken q) _ _ (λ y o. then-assoc (expressionsAt anyToken n o) _ _))))
 argument-is n unary.Extend p s = then-assoc (expectToken leftBracket s) _ _ ∙ then-same (expectToken leftBracket s) _ _ (λ z r.
     then-assoc (readLeaf typeLeaf r) _ _ ∙ then-same (readLeaf typeLeaf r) _ _ (λ w v. then-assoc (readLeaf nameLeaf v) _ _ ∙ then-same (readLeaf nameLeaf v) _ _ (λ x q. then-assoc (expectToken assignToken q) _ _ ∙ then-same (expectToken assignToken q) _ _ (λ y o.
-        then-assoc (expressionsAt anyToken n o) _ _ ∙ then-same (expressionsAt anyToken n o) _ _ (λ t i. then-assoc (expectToken rightBracket i) _ _)))) ∙
+    then-assoc (expressionsAt anyToken n o) _ _ ∙ then-same (expressionsAt anyToken n o) _ _ (λ t i. then-assoc (expectToken rightBracket i) _ _)))) ∙
     sym (then-assoc (readLeaf typeLeaf r) _ _ ∙ then-same (readLeaf typeLeaf r) _ _ (λ w v. then-assoc (assignedReader n v) _ _ ∙ then-assoc (readLeaf nameLeaf v) _ _ ∙ then-same (readLeaf nameLeaf v) _ _ (λ x q. then-assoc (expectToken assignToken q) _ _ ∙ then-same (expectToken assignToken q) _ _ (λ y o. then-assoc (expressionsAt anyToken n o) _ _)))))
 
 operator-at : (n : ℕ) (u : Unary) (w : Terminal) (p : Place) (s : List Token) → factorsAt anyToken (suc n) ((w at p) ∷ s) ≡ andThen (readArgument (expressionsAt anyToken n) (bracketsAt anyToken n) (argumentOf (unaryOf u)) s) (λ x r. andThen (factorsAt anyToken n r) (λ t q. read (apply (unaryOf u) p x t) q)) →

@@ -119,8 +119,8 @@ pub join-held : (text : Bytes) (xs ws ys zs : List Node) (from m n upto i c j : 
 join-held text xs ws ys zs from m n upto i c j t x u p h k l b d e says =
     let o = expressed-some text ws m n c x k in let q = expressed-some text ys n upto j u l in
     join-made text zs from m n upto i c j t x u p
-        (expressed-below text xs zs from m i t (λ w z. e w (omega (arith, z, o, q)) ∙ d w (omega (arith, z, o)) ∙ b w z) h)
-        (expressed-below text ws zs m n c x (λ w z. e w (omega (arith, z, q)) ∙ d w z) k) (expressed-below text ys zs n upto j u e l) says
+    (expressed-below text xs zs from m i t (λ w z. e w (omega (arith, z, o, q)) ∙ d w (omega (arith, z, o)) ∙ b w z) h)
+    (expressed-below text ws zs m n c x (λ w z. e w (omega (arith, z, q)) ∙ d w z) k) (expressed-below text ys zs n upto j u e l) says
 
 -- a name before `=` and the value behind it
 assigned-made : (text : Bytes) (ys : List Node) (from m upto i j : ℕ) (x : Bytes) (p : Place) (u : Part) → Held nameLevel text ys from m j (namePart (named x p)) → Expressed text ys m upto i u → Assigned text ys from upto i (nameAndExpression (namePart (named x p)) u)
@@ -174,9 +174,24 @@ unary-made unary.Update text zs from m upto i j x t p (e, lt, a, h) (f, k) says 
     (refl, (from, i, j, a, h, subst (λ n. HoldsExpression text zs n j (t .expression)) e k, lt, omega (arith, e, l), f, says))
 unary-made unary.Extend text zs from m upto i j x t p (e, lt, y, a, h) (f, k) says =
     let l = expression-order text zs m j (t .expression) k in
-    let one : from + 1 ≡ suc from = omega arith in
-    (refl, (from, suc from, i, j, y, a, h, subst (λ n. HoldsExpression text zs n j (t .expression)) e k, omega arith, lt, omega (arith, e, l), f,
-        subst (λ n. Says zs upto (what.Extended from n i j) p) one says))
+    let one : from + 1 ≡ suc from = omega arith in (
+      refl,
+      (
+        from,
+        suc from,
+        i,
+        j,
+        y,
+        a,
+        h,
+        subst (λ n. HoldsExpression text zs n j (t .expression)) e k,
+        omega arith,
+        lt,
+        omega (arith, e, l),
+        f,
+        subst (λ n. Says zs upto (what.Extended from n i j) p) one says,
+      ),
+    )
 
 pub inside-below : (u : Unary) (text : Bytes) (xs ys : List Node) (from upto i : ℕ) (x : Part) → Below upto xs ys → Inside (argumentOf (unaryOf u)) text xs from upto i x → Inside (argumentOf (unaryOf u)) text ys from upto i x
 unfolding Inside Assigned
@@ -185,13 +200,19 @@ inside-below unary.Rename text xs ys from upto i x b h = held-below nameLevel te
 inside-below unary.Select text xs ys from upto i x b h = expressed-below text xs ys from upto i x b h
 inside-below unary.Exists text xs ys from upto i x b h = expressed-below text xs ys from upto i x b h
 inside-below unary.All text xs ys from upto i x b h = expressed-below text xs ys from upto i x b h
-inside-below unary.Update text xs ys from upto i x b (e, lt, a, h) =
-    (e, lt, name-stable text xs ys from from (firstName (x .names)) (below-agree from (suc from) xs ys (λ j l. b j (omega (arith, l, e, lt)))) a,
-     expression-stable text xs ys (suc from) i (x .expression) (below-agree (suc from) (suc i) xs ys (λ j l. b j (omega (arith, l, e)))) h)
-inside-below unary.Extend text xs ys from upto i x b (e, lt, y, a, h) =
-    (e, lt, type-stable text xs ys from from (firstType (x .types)) (below-agree from (suc from) xs ys (λ j l. b j (omega (arith, l, e, lt)))) y,
-     name-stable text xs ys (suc from) (suc from) (firstName (x .names)) (below-agree (suc from) (suc (suc from)) xs ys (λ j l. b j (omega (arith, l, e, lt)))) a,
-     expression-stable text xs ys (suc (suc from)) i (x .expression) (below-agree (suc (suc from)) (suc i) xs ys (λ j l. b j (omega (arith, l, e)))) h)
+inside-below unary.Update text xs ys from upto i x b (e, lt, a, h) = (
+  e,
+  lt,
+  name-stable text xs ys from from (firstName (x .names)) (below-agree from (suc from) xs ys (λ j l. b j (omega (arith, l, e, lt)))) a,
+  expression-stable text xs ys (suc from) i (x .expression) (below-agree (suc from) (suc i) xs ys (λ j l. b j (omega (arith, l, e)))) h,
+)
+inside-below unary.Extend text xs ys from upto i x b (e, lt, y, a, h) = (
+  e,
+  lt,
+  type-stable text xs ys from from (firstType (x .types)) (below-agree from (suc from) xs ys (λ j l. b j (omega (arith, l, e, lt)))) y,
+  name-stable text xs ys (suc from) (suc from) (firstName (x .names)) (below-agree (suc from) (suc (suc from)) xs ys (λ j l. b j (omega (arith, l, e, lt)))) a,
+  expression-stable text xs ys (suc (suc from)) i (x .expression) (below-agree (suc (suc from)) (suc i) xs ys (λ j l. b j (omega (arith, l, e)))) h,
+)
 
 pub unary-held : (u : Unary) (text : Bytes) (xs ys zs : List Node) (from m upto i j : ℕ) (x t : Part) (p : Place) → Inside (argumentOf (unaryOf u)) text xs from m i x → Expressed text ys m upto j t → Below m xs ys → Below upto ys zs →
     Says zs upto (unaryNode u from i j) p → Expressed text zs from (suc upto) upto (apply (unaryOf u) p x t)
@@ -236,7 +257,7 @@ unfolding tableReader
 table-first end n None p s b f l e h = absurd (let z : ⊥ = omega arith in z)
 table-first end n (Some k) p s b f l e h =
     refused-first end (readInstance (bracketsAt anyToken n) s) (λ t r. andThen (expectToken rightBrace r) (λ _ q. read (tableConstant p t) q)) f (λ t. expect-halts end rightBrace (λ _ q. read (tableConstant p t) q) (omega arith))
-        (ap (refusedBy end) (instance-is n s b e) ∙ h)
+    (ap (refusedBy end) (instance-is n s b e) ∙ h)
 
 pub table-second : (end : Place) (n : ℕ) (k : Option Terminal) (p : Place) (s : List Token) (b : Bool) (t : Part) (r : List Token) (f : Fault) → 0 < paysAhead k → b ≡ beginsWith leftParenthesis s →
     readLevel (itemReader n (instanceOf b)) (bracketsAt anyToken n) (listLevel (instanceOf b)) s ≡ read t r → refusedBy end (expectToken rightBrace r) ≡ some f → refusedBy end (tableReader n (before k p s)) ≡ some f

@@ -119,7 +119,7 @@ pub assigned-first : (end : Place) (n : ℕ) (s : List Token) (f : Fault) → re
 unfolding assignedReader
 assigned-first end n s f h =
     refused-first end (readLeaf nameLeaf s) (λ x q. andThen (expectToken assignToken q) (λ _ p. andThen (expressionsAt anyToken n p) (λ t o. read (nameAndExpression x t) o))) f
-        (λ x. expect-halts end assignToken (λ _ p. andThen (expressionsAt anyToken n p) (λ t o. read (nameAndExpression x t) o)) (omega arith)) h
+    (λ x. expect-halts end assignToken (λ _ p. andThen (expressionsAt anyToken n p) (λ t o. read (nameAndExpression x t) o)) (omega arith)) h
 
 pub assigned-second : (end : Place) (n : ℕ) (s : List Token) (x : Part) (q : List Token) (f : Fault) → readLeaf nameLeaf s ≡ read x q → refusedBy end (expectToken assignToken q) ≡ some f → refusedBy end (assignedReader n s) ≡ some f
 unfolding assignedReader
@@ -169,13 +169,13 @@ pub unary-first : (end : Place) (u : Unary) (n : ℕ) (p : Place) (s : List Toke
 unfolding unaryBehind
 unary-first end u n p s f h =
     refused-first end (expectToken leftBracket s) (λ _ r. andThen (insideReader n (argumentOf (unaryOf u)) r) (λ x q. andThen (expectToken rightBracket q) (λ _ o. andThen (factorsAt anyToken n o) (λ t i. read (apply (unaryOf u) p x t) i)))) f
-        (λ z. inside-halts end n u (λ x q. andThen (expectToken rightBracket q) (λ _ o. andThen (factorsAt anyToken n o) (λ t i. read (apply (unaryOf u) p x t) i)))) h
+    (λ z. inside-halts end n u (λ x q. andThen (expectToken rightBracket q) (λ _ o. andThen (factorsAt anyToken n o) (λ t i. read (apply (unaryOf u) p x t) i)))) h
 
 pub unary-second : (end : Place) (u : Applied) (n : ℕ) (p : Place) (s : List Token) (z : Part) (r : List Token) (f : Fault) → expectToken leftBracket s ≡ read z r → refusedBy end (insideReader n (argumentOf u) r) ≡ some f → refusedBy end (unaryBehind u n p s) ≡ some f
 unfolding unaryBehind
 unary-second end u n p s z r f e h =
     rw e (refused-first end (insideReader n (argumentOf u) r) (λ x q. andThen (expectToken rightBracket q) (λ _ o. andThen (factorsAt anyToken n o) (λ t i. read (apply u p x t) i))) f
-        (λ x. expect-halts end rightBracket (λ _ o. andThen (factorsAt anyToken n o) (λ t i. read (apply u p x t) i)) (omega arith)) h)
+    (λ x. expect-halts end rightBracket (λ _ o. andThen (factorsAt anyToken n o) (λ t i. read (apply u p x t) i)) (omega arith)) h)
 
 pub unary-third : (end : Place) (u : Applied) (n : ℕ) (p : Place) (s : List Token) (z : Part) (r : List Token) (x : Part) (q : List Token) (f : Fault) → expectToken leftBracket s ≡ read z r → insideReader n (argumentOf u) r ≡ read x q →
     refusedBy end (expectToken rightBracket q) ≡ some f → refusedBy end (unaryBehind u n p s) ≡ some f
@@ -512,7 +512,7 @@ pub join-halts : (end : Place) (n : ℕ) (l : Rank) (t : Part) (k : Option Termi
 join-halts end n l t k p s f e h =
     ap (refusedBy end) (more-joins n l t k p s e) ∙
     refused-ahead end (λ s. andThen (bracketsAt anyToken n s) (λ x r. andThen (operandReader n l r) (λ u q. onward n (levelBehind l) (joinParts p t x u) q))) s f
-        (bracket-halts end n (λ x r. andThen (operandReader n l r) (λ u q. onward n (levelBehind l) (joinParts p t x u) q))) h
+    (bracket-halts end n (λ x r. andThen (operandReader n l r) (λ u q. onward n (levelBehind l) (joinParts p t x u) q))) h
 
 pub join-first : (end : Place) (n : ℕ) (l : Rank) (t : Part) (k : Option Terminal) (p : Place) (s : List Token) (f : Fault) → turn.Join ≡ turnIn l k → refusedBy end (bracketsAt anyToken n s) ≡ some f → refusedBy end (onward n l t (before k p s)) ≡ some f
 join-first end n l t k p s f e h =

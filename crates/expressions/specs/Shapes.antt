@@ -2,11 +2,12 @@
 use Prim.Native.Nat.{ℕ, suc, _<_}
 use mathlib.Core.List.{List, [], _∷_}
 use mathlib.Core.Path.{_≡_}
-use Rattle.words.specs.Tokens.{Bytes, Place, Token}
+use Rattle.words.specs.declared.tokens.Sign.{Sign}
+use Rattle.words.specs.Tokens.{Bytes, Place, Token, Token._at_, Terminal.sign}
 use Rattle.grammar.specs.Parts.{Part, Level, Unary, Argument, Argument.noArgument, Argument.namesArgument, Argument.conditionArgument, Argument.updateArgument, Argument.extendArgument}
 use Rattle.grammar.specs.Parts.{Leaf.nameLeaf, Leaf.typeLeaf, Level.nameLevel, Level.logicLevel, Level.comparisonLevel, Level.comparedLevel, Level.sumLevel, Level.productLevel}
 use Rattle.grammar.specs.Parts.{Unary.unaryMinus, Unary.unaryNot, Unary.unaryProject, Unary.unaryRename, Unary.unarySelect, Unary.unaryExists, Unary.unaryAll, Unary.unaryUpdate, Unary.unaryExtend}
-use Rattle.grammar.specs.Parts.{argumentOf, apply, nothing, nameAndExpression, typeNameAndExpression, tableConstant, firstName, firstType, leftBracket, rightBracket, rightBrace, assignToken, placeOf}
+use Rattle.grammar.specs.Parts.{argumentOf, apply, nothing, nameAndExpression, typeNameAndExpression, tableConstant, firstName, firstType, leftBracket, rightBracket, rightBrace, assignToken, placeOf, origin}
 use Rattle.grammar.specs.Promise.{anyToken}
 use Rattle.grammar.specs.Readers.{Cause.cannotFollow, Outcome, Outcome.found, Outcome.refusedAt, Reader, andThen, expectToken, readLeaf, readLevel, readInstance, factorsAt, bracketsAt, expressionsAt}
 use Rattle.tree.specs.Holds.{HoldsName, HoldsType, HoldsExpression}
@@ -53,6 +54,10 @@ operandReader n rank.Product = factorsAt anyToken n
 
 abbrev pub levelReader : ℕ → Rank → Reader
 levelReader n l = readLevel (operandReader n l) (bracketsAt anyToken n) (levelOf l)
+
+-- the sign that closes, as a token
+abbrev pub closingToken : Sign → Token
+closingToken g = sign g at origin
 
 -- `-` or `not`, and its operand
 unfoldable pub negationBehind : Unary → ℕ → Place → Reader

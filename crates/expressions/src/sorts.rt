@@ -165,7 +165,11 @@ impl Unary {
 pub fn instance(tuples: bool) -> Listed
     ensures { λ r. ⌜ r ≡ instanceOf tuples ⌝ }
 {
-    if tuples { Listed::Tuples } else { Listed::Types }
+    if tuples {
+        Listed::Tuples
+    } else {
+        Listed::Types
+    }
 }
 
 pub fn table_node(tuples: bool, first: u16) -> What

@@ -86,13 +86,18 @@ list-link H o s xs ys zs from m upto first next l k (last, e, h) (end, i, g) bel
     let wrote2 : zs ≡ set ys last (relinked (nodeAt ys last) next) = subst (λ n. zs ≡ set ys n (relinked (nodeAt ys n) next)) d wrote in
     let r = chain-order H o ys m end next k g in
     let agree : Agree from (suc last) xs zs = record {
-          same = λ j lo hi. linked-said ys zs last next j room2 wrote2 ∙ ap said (below j (omega (arith, hi, e)));
-          linked = λ j lo hi. ap (λ n. n .next) (linked-other ys zs last next j (λ z. omega (arith, z, hi)) wrote2 ∙ below j (omega (arith, hi, e))) } in
+      same = λ j lo hi. linked-said ys zs last next j room2 wrote2 ∙ ap said (below j (omega (arith, hi, e)));
+      linked = λ j lo hi. ap (λ n. n .next) (linked-other ys zs last next j (λ z. omega (arith, z, hi)) wrote2 ∙ below j (omega (arith, hi, e)));
+    } in
     let firm : Firm m (suc end) ys zs = record {
-          same = λ j lo hi. ap said (linked-other ys zs last next j (λ z. omega (arith, z, lo, e)) wrote2);
-          linked = λ j lo hi. ap (λ n. n .next) (linked-other ys zs last next j (λ z. omega (arith, z, lo, e)) wrote2) } in
-    (end, i, chain-append H o s xs zs from last first end next l k agree (ap (λ n. n .next) (linked-here ys zs last next room2 wrote2)) (omega (arith, r .0, e)) h
-        (subst (λ n. Chained H zs n end next k) e (chain-stable H o s ys zs m end next k firm g)))
+      same = λ j lo hi. ap said (linked-other ys zs last next j (λ z. omega (arith, z, lo, e)) wrote2);
+      linked = λ j lo hi. ap (λ n. n .next) (linked-other ys zs last next j (λ z. omega (arith, z, lo, e)) wrote2);
+    } in (
+      end,
+      i,
+      chain-append H o s xs zs from last first end next l k agree (ap (λ n. n .next) (linked-here ys zs last next room2 wrote2)) (omega (arith, r .0, e)) h
+          (subst (λ n. Chained H zs n end next k) e (chain-stable H o s ys zs m end next k firm g)),
+    )
 
 both-none : {A : Type 0} (l k : List A) → l ≡ [] → k ≡ [] → l ++ k ≡ []
 both-none l k e f = ap (λ i. i ++ k) e ∙ f
@@ -191,7 +196,7 @@ list-stops n d t None p s e = rest-nil (itemReader n d) (bracketsAt anyToken n) 
 list-stops n d t (Some w) p s e =
     rest-cons (itemReader n d) (bracketsAt anyToken n) (item-shorter n d) (bracket-shorter n) (levelOf d) t (w at p) s ∙
     ap (λ x. takeTurn (λ l t s. rest (itemReader n d) (bracketsAt anyToken n) l t s) (itemReader n d) (bracketsAt anyToken n) x (levelOf d) t (w at p) s)
-        (list-turn d w p ∙ comma-turn w p ∙ ap (λ b. cond b (takeOperator commas) stop) e)
+    (list-turn d w p ∙ comma-turn w p ∙ ap (λ b. cond b (takeOperator commas) stop) e)
 
 -- with one it goes on behind the next element
 pub list-goes-on : (n : ℕ) (d : Listed) (t : Part) (k : Option Terminal) (p : Place) (s : List Token) → eqb 26 (codeAhead k) ≡ true →
@@ -200,7 +205,7 @@ list-goes-on n d t None p s e = absurd (let z = eqb-true 26 29 e in omega (arith
 list-goes-on n d t (Some w) p s e =
     rest-cons (itemReader n d) (bracketsAt anyToken n) (item-shorter n d) (bracket-shorter n) (levelOf d) t (w at p) s ∙
     ap (λ x. takeTurn (λ l t s. rest (itemReader n d) (bracketsAt anyToken n) l t s) (itemReader n d) (bracketsAt anyToken n) x (levelOf d) t (w at p) s)
-        (list-turn d w p ∙ comma-turn w p ∙ ap (λ b. cond b (takeOperator commas) stop) e) ∙
+    (list-turn d w p ∙ comma-turn w p ∙ ap (λ b. cond b (takeOperator commas) stop) e) ∙
     ap (λ l. andThen (itemReader n d s) (λ u r. rest (itemReader n d) (bracketsAt anyToken n) l (combine commas p t u) r)) (list-again d)
 
 -- what is no token ends it too
@@ -244,8 +249,8 @@ attribute-held text xs ys zs from m upto i j t u d p x q e f h k b c says next =
     subst (λ v. Held attributeLevel text zs from (suc upto) upto (attributeDeclaration v u)) (sym e)
     (subst (λ v. Held attributeLevel text zs from (suc upto) upto (attributeDeclaration (typePart (typed d p)) v)) (sym f)
     (attribute-made text zs from m upto i j (typed d p) (named x q)
-        (subst (Held typeLevel text zs from m i) e (held-below typeLevel text xs zs from m i t (λ n l. c n (omega (arith, l, z)) ∙ b n l) h))
-        (subst (Held nameLevel text zs m upto j) f (held-below nameLevel text ys zs m upto j u c k)) says next))
+    (subst (Held typeLevel text zs from m i) e (held-below typeLevel text xs zs from m i t (λ n l. c n (omega (arith, l, z)) ∙ b n l) h))
+    (subst (Held nameLevel text zs m upto j) f (held-below nameLevel text ys zs m upto j u c k)) says next))
 
 -- a tuple, of its constants
 pub tuple-held : (text : Bytes) (ys zs : List Node) (from upto i : ℕ) (t : Part) (p : Place) → Held constantLevel text ys from upto i t → Below upto ys zs → Says zs upto (what.Tuple i) p → nodeAt zs upto .next ≡ 0 →
@@ -293,7 +298,7 @@ pub tuple-first : (end : Place) (n : ℕ) (s : List Token) (f : Fault) → refus
 unfolding readTuple
 tuple-first end n s f h =
     refused-first end (expectToken leftParenthesis s) (λ z r. andThen (readLevel (readLeaf constantLeaf) (bracketsAt anyToken n) constantLevel r) (λ t q. andThen (expectToken rightParenthesis q) (λ _ p. read (tupleConstant z t) p))) f
-        (λ z. level-halts end n listed.Constants (λ t q. andThen (expectToken rightParenthesis q) (λ _ p. read (tupleConstant z t) p))) h
+    (λ z. level-halts end n listed.Constants (λ t q. andThen (expectToken rightParenthesis q) (λ _ p. read (tupleConstant z t) p))) h
 
 pub tuple-second : (end : Place) (n : ℕ) (s : List Token) (z : Part) (r : List Token) (f : Fault) → expectToken leftParenthesis s ≡ read z r → refusedBy end (readLevel (readLeaf constantLeaf) (bracketsAt anyToken n) constantLevel r) ≡ some f →
     refusedBy end (readTuple (bracketsAt anyToken n) s) ≡ some f
@@ -301,7 +306,7 @@ unfolding readTuple
 tuple-second end n s z r f e h =
     refused-then end (expectToken leftParenthesis s) z r (λ z r. andThen (readLevel (readLeaf constantLeaf) (bracketsAt anyToken n) constantLevel r) (λ t q. andThen (expectToken rightParenthesis q) (λ _ p. read (tupleConstant z t) p))) f e
     (refused-first end (readLevel (readLeaf constantLeaf) (bracketsAt anyToken n) constantLevel r) (λ t q. andThen (expectToken rightParenthesis q) (λ _ p. read (tupleConstant z t) p)) f
-        (λ t. expect-halts end rightParenthesis (λ _ p. read (tupleConstant z t) p) (omega arith)) h)
+    (λ t. expect-halts end rightParenthesis (λ _ p. read (tupleConstant z t) p) (omega arith)) h)
 
 pub tuple-third : (end : Place) (n : ℕ) (s : List Token) (z : Part) (r : List Token) (t : Part) (q : List Token) (f : Fault) → expectToken leftParenthesis s ≡ read z r →
     readLevel (readLeaf constantLeaf) (bracketsAt anyToken n) constantLevel r ≡ read t q → refusedBy end (expectToken rightParenthesis q) ≡ some f → refusedBy end (readTuple (bracketsAt anyToken n) s) ≡ some f
@@ -328,7 +333,7 @@ pub more-halts : (end : Place) (n : ℕ) (d : Listed) (t : Part) (k : Option Ter
 more-halts end n d t k p s f e h =
     ap (refusedBy end) (list-goes-on n d t k p s e) ∙
     refused-ahead end (λ s. andThen (itemReader n d s) (λ u r. rest (itemReader n d) (bracketsAt anyToken n) (levelOf d) (combine commas p t u) r)) s f
-        (item-halts end n d (λ u r. rest (itemReader n d) (bracketsAt anyToken n) (levelOf d) (combine commas p t u) r)) h
+    (item-halts end n d (λ u r. rest (itemReader n d) (bracketsAt anyToken n) (levelOf d) (combine commas p t u) r)) h
 
 pub more-first : (end : Place) (n : ℕ) (d : Listed) (t : Part) (k : Option Terminal) (p : Place) (s : List Token) (f : Fault) → eqb 26 (codeAhead k) ≡ true → refusedBy end (itemReader n d s) ≡ some f →
     refusedBy end (rest (itemReader n d) (bracketsAt anyToken n) (levelOf d) t (before k p s)) ≡ some f

@@ -101,3 +101,19 @@ numbers-later a b c (Err f) h k l n = tt
 pub numbers-on-later : (a b c : Parser) (r : Result ℕ Fault) → b .count + worth b ≤ a .count + worth a → worth b ≤ worth a → a .count ≤ b .count → Cases r (λ _. NumbersOn b c) (λ _. Unit {0}) → Cases r (λ _. NumbersOn a c) (λ _. Unit {0})
 numbers-on-later a b c (Ok i) h k l n = record { thrifty = omega (arith, h, n .thrifty); onward = omega (arith, k, n .onward); grown = omega (arith, l, n .grown) }
 numbers-on-later a b c (Err f) h k l n = tt
+
+-- a node is put on top of what is held: what the next call begins with
+pub put-kept : (P : Holding) (text : Bytes) (from : ℕ) (b c : Parser) (xs ys zs : List Node) (w : What) (p : Place) (u : Part) (i : ℕ) →
+    c ≡ counted b → zs ≡ set ys (b .count) (newNode w p) → i ≡ b .count → Grounded text b → Below from xs ys → Beyond (b .count) xs ys → from ≤ b .count → b .count < length ys →
+    (Below (b .count) ys zs → Says zs (b .count) w p → nodeAt zs (b .count) .next ≡ 0 → P text zs from (suc (b .count)) (b .count) u) →
+    (Grounded text c) × (Below from xs zs) × (Beyond (c .count) xs zs) × P text zs from (c .count) i u
+put-kept P text from b c xs ys zs w p u i state wrote root g below beyond low room h =
+    let stays : Below (b .count) ys zs = subst (Below (b .count) ys) (sym wrote) (below-set (b .count) (b .count) ys (newNode w p) (omega arith)) in
+    let after : Beyond (suc (b .count)) ys zs = subst (Beyond (suc (b .count)) ys) (sym wrote) (beyond-set (suc (b .count)) (b .count) ys (newNode w p) (omega arith)) in
+    let node : nodeAt zs (b .count) ≡ newNode w p = subst (λ l. nodeAt l (b .count) ≡ newNode w p) (sym wrote) (here ys (b .count) (newNode w p) room) in
+    let more : c .count ≡ suc (b .count) = let z = ap (λ q. q .count) state in omega (arith, z) in (
+      grounded-counted text b c state g,
+      below-then from (b .count) xs ys zs low below stays,
+      subst (λ n. Beyond n xs zs) (sym more) (beyond-then (b .count) (suc (b .count)) xs ys zs (omega arith) beyond after),
+      subst (λ n. P text zs from n i u) (sym more) (subst (λ n. P text zs from (suc (b .count)) n u) (sym root) (h stays (ap said node) (ap (λ n. n .next) node))),
+    )

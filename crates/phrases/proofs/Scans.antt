@@ -227,9 +227,9 @@ name-sees text x r l b h = go (leb (run nameByte (x ∷ r)) name-bytes) refl
     go true e =
         let cheap = word-pays (take (run nameByte (x ∷ r)) (x ∷ r)) _ (keyword-cheap (take (run nameByte (x ∷ r)) (x ∷ r))) (omega (arith, long, some)) in
         taken-sees text (spot (x ∷ r) l b) (run nameByte (x ∷ r)) _ clear (omega (arith, cheap, long))
-            (λ g. word-tells text _ (keywordOf (take (run nameByte (x ∷ r)) (x ∷ r))) (place l b)
-                (subst (λ i. Spells text i name-bytes (take (run nameByte (x ∷ r)) (x ∷ r))) (let z : b + 0 ≡ b = omega arith in z)
-                    (spells text (spot (x ∷ r) l b) 0 (run nameByte (x ∷ r)) name-bytes (let o = no-feed-length (run nameByte (x ∷ r)) (x ∷ r) clear in omega (arith, o)) (leb-true _ _ e) g)))
+        (λ g. word-tells text _ (keywordOf (take (run nameByte (x ∷ r)) (x ∷ r))) (place l b)
+        (subst (λ i. Spells text i name-bytes (take (run nameByte (x ∷ r)) (x ∷ r))) (let z : b + 0 ≡ b = omega arith in z)
+        (spells text (spot (x ∷ r) l b) 0 (run nameByte (x ∷ r)) name-bytes (let o = no-feed-length (run nameByte (x ∷ r)) (x ∷ r) clear in omega (arith, o)) (leb-true _ _ e) g)))
 
 integer-sees : (text : Bytes) (x : ℕ) (r : Bytes) (l b : ℕ) → digit x ≡ true → Sees text (spot (x ∷ r) l b) (integerAt integer-max (spot (x ∷ r) l b))
 integer-sees text x r l b h = go (leb (valueOf (take (run digit (x ∷ r)) (x ∷ r))) integer-max) refl
@@ -268,7 +268,7 @@ string-sees text r l b = go (eqb (getD r (run plain r) 0) 34) (leb (run plain r)
         let two : suc (suc (run plain r)) ≡ run plain r + 2 = omega arith in
         let o = no-feed-length (suc (run plain r)) r clear in
         taken-sees text (spot (34 ∷ r) l b) (run plain r + 2) (string (take (run plain r) r)) (subst (λ n. NoFeed n (34 ∷ r)) two (after-one (suc (run plain r)) 34 r refl clear)) (omega arith)
-            (λ g. spells text (spot (34 ∷ r) l b) 1 (run plain r) string-bytes (omega (arith, o)) (leb-true _ _ f) g)
+        (λ g. spells text (spot (34 ∷ r) l b) 1 (run plain r) string-bytes (omega (arith, o)) (leb-true _ _ f) g)
 
 single-no-feed : (a : ℕ) (x : Symbol) → singleOf a ≡ Some x → feed a ≡ false
 single-no-feed a x h = grind (arith, tells)

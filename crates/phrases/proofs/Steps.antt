@@ -137,7 +137,6 @@ refused-then end x t r g f e h = ap (λ i. refusedBy end (andThen i g)) e ∙ h
 pub found-then : (x y : Outcome) (t : Part) (r : List Token) (g : Part → List Token → Outcome) → x ≡ read t r → g t r ≡ y → andThen x g ≡ y
 found-then x y t r g e h = ap (λ i. andThen i g) e ∙ h
 
-
 -- what a step has done
 pub stepped-ok : (text : Bytes) (a b : Parser) (u : Unit {0}) → Stepped text a b (Ok u) → (Grounded text b) × (tokensAhead b ≡ behind a)
 unfolding Stepped

@@ -89,7 +89,12 @@ pub fn list<'a>(parser: &mut Parser<'a>, nodes: &mut [Node], listed: Listed) -> 
 }
 
 // The elements behind a comma each.
-fn more_items<'a>(parser: &mut Parser<'a>, nodes: &mut [Node], listed: Listed, first: u16) -> Result<u16, Fault>
+fn more_items<'a>(
+    parser: &mut Parser<'a>,
+    nodes: &mut [Node],
+    listed: Listed,
+    first: u16,
+) -> Result<u16, Fault>
     requires begun { ⌜ 0 < now parser .count ⌝ }
     requires room { ⌜ now parser .count + worth (now parser) ≤ nodes-limit ⌝ }
     requires fits { ⌜ nodes-limit ≤ length (now nodes) ⌝ }

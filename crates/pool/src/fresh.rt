@@ -6,6 +6,7 @@ ghost use Rattle.fault.specs.Limits.{read-strings};
 use fault::limits::READ_STRINGS;
 use words::Span;
 
+#[derive(Drop)]
 pub struct Fresh {
     pub(crate) spans: [Span; READ_STRINGS],
     pub(crate) count: usize,

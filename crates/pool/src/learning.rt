@@ -95,6 +95,13 @@ impl Fresh {
         }
     }
 
+    // Whether there ever was too little room.
+    pub fn is_over(&self) -> bool
+        ensures { λ r. ⌜ r ≡ now (self .entry) .over ⌝ }
+    {
+        self.over
+    }
+
     // A string of the text: nothing to learn if it has a number, else one new string while there is room.
     fn learn(&mut self, known: Known<'_>, text: &[u8], span: Span)
         ensures { λ _. ⌜ learnedOf (now (text .entry)) (now (self .exit)) ≡ learnString (numbered (known .entry)) (learnedOf (now (text .entry)) (now (self .entry))) (part (now (text .entry)) span) ⌝ }

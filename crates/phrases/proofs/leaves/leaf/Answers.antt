@@ -35,8 +35,8 @@ returns-in-Continue-advance c =
       answer = λ text g.
           let h = leaf-found text _ _ _ _ _ (g .lies .small) (g .tells) (c .in-Some .ensures tt) in
           let s = stepped-ok _ _ _ _ (n .step text g) in
-          done-put _ _ _ _ _ _ _ _ _ _ _ _ _ _ (c .put .ensures .state) (c .put .ensures .nodes) (c .put .ensures .root) (h .1 ∙ ap (found (h .0)) (sym (s .1))) (s .0) (λ i l. refl) (λ i l. refl) (omega (arith, n .count)) (omega (arith, n .count, n .paid, some, one)) 
-              (λ _ says next. subst (λ m. Held (leafLevel (leafOf (c .args .leaf))) text (c .put .last .nodes) m (suc (c .advance .last .self .count)) (c .advance .last .self .count) (h .0)) (n .count) (h .2 _ _ says next));
+          done-put _ _ _ _ _ _ _ _ _ _ _ _ _ _ (c .put .ensures .state) (c .put .ensures .nodes) (c .put .ensures .root) (h .1 ∙ ap (found (h .0)) (sym (s .1))) (s .0) (λ i l. refl) (λ i l. refl) (omega (arith, n .count)) (omega (arith, n .count, n .paid, some, one))
+          (λ _ says next. subst (λ m. Held (leafLevel (leafOf (c .args .leaf))) text (c .put .last .nodes) m (suc (c .advance .last .self .count)) (c .advance .last .self .count) (h .0)) (n .count) (h .2 _ _ says next));
     }
 
 pub returns-in-None : need.returns-in-None

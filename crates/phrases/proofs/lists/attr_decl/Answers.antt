@@ -37,9 +37,9 @@ returns c =
           let (k, t) = type-read _ _ _ _ _ (d .value) in
           let (x, u) = name-read _ _ _ _ _ (e .value) in
           done-put _ _ _ _ _ _ _ _ _ _ _ _ _ _ (c .put .ensures .state) (c .put .ensures .nodes) (c .put .ensures .root)
-              (attribute-found _ _ _ _ _ (d .value) (e .value)) (e .grounded)
-              (below-then _ _ _ _ _ (omega (arith, n .numbers .grown)) (d .below) (e .below))
-              (beyond-then _ _ _ _ _ (omega (arith, m .numbers .grown)) (d .beyond) (e .beyond))
-              (omega (arith, n .numbers .grown, m .numbers .grown)) (omega (arith, n .spare, m .numbers .thrifty, c .pre .room, c .pre .fits, c .leaf .kept .nodes, c .leaf-2 .kept .nodes))
-              (λ below says next. attribute-held text _ _ _ _ _ _ _ _ _ _ _ _ _ _ t u (d .holds) (e .holds) (e .below) below says next);
+          (attribute-found _ _ _ _ _ (d .value) (e .value)) (e .grounded)
+          (below-then _ _ _ _ _ (omega (arith, n .numbers .grown)) (d .below) (e .below))
+          (beyond-then _ _ _ _ _ (omega (arith, m .numbers .grown)) (d .beyond) (e .beyond))
+          (omega (arith, n .numbers .grown, m .numbers .grown)) (omega (arith, n .spare, m .numbers .thrifty, c .pre .room, c .pre .fits, c .leaf .kept .nodes, c .leaf-2 .kept .nodes))
+          (λ below says next. attribute-held text _ _ _ _ _ _ _ _ _ _ _ _ _ _ t u (d .holds) (e .holds) (e .below) below says next);
     }
