@@ -18,10 +18,12 @@ use Rattle.chained.proofs.Stretches.{Seg, seg-of, seg-join, seg-frame, seg-rel
 
 -- What the code of `join` does.
 
+-- an empty chain: the other one is the whole
 pub join-none : (ns : List ℕ) (size first next : ℕ) → size ≡ 0 → (next ≡ headOf size first next) × (ns ≡ joined ns size first next)
 join-none ns zero first next z = (refl, refl)
 join-none ns (suc k) first next z = absurd (omega arith)
 
+-- else the last cell gets a new link
 pub join-some : (ns : List ℕ) (size first next last : ℕ) → 0 < size → last ≡ step ns (size - 1) first → (first ≡ headOf size first next) × (set ns last next ≡ joined ns size first next)
 join-some ns zero first next last p e = absurd (omega arith)
 join-some ns (suc k) first next last p e =
@@ -34,28 +36,34 @@ under-front m ns n k i l u =
     let e : k ≡ n + (k - n) = omega arith in
     under-append m (walk ns n i) (walk ns (k - n) (step ns n i)) (ap (under m) (sym (walk-add ns n (k - n) i)) ∙ ap (λ j. under m (walk ns j i)) (sym e) ∙ u) .0
 
+-- the walk to that cell stays within the cells
 pub join-part : (ns : List ℕ) (size first : ℕ) → under (length ns) (walk ns size first) ≡ true → under (length ns) (walk ns (size - 1) first) ≡ true
 join-part ns size first u = under-front (length ns) ns (size - 1) size first (omega arith) u
 
+-- and ends at one
 pub join-low : (ns : List ℕ) (size first last : ℕ) → 0 < size → under (length ns) (walk ns size first) ≡ true → last ≡ step ns (size - 1) first → last < length ns
 join-low ns size first last p u e = subst (λ x. x < length ns) (sym e) (step-under (length ns) ns size (size - 1) first (omega arith) u)
 
 -- Places.
 
+-- no link comes or goes
 pub length-joined : (ns : List ℕ) (size first next : ℕ) → length (joined ns size first next) ≡ length ns
 length-joined ns zero first next = refl
 length-joined ns (suc k) first next = length-set ns (step ns k first) next
 
+-- the cells of two directories side by side
 pub places-append : (ns : List ℕ) (es fs : List Entry) → places ns (es ++ fs) ≡ places ns es ++ places ns fs
 places-append ns [] fs = refl
 places-append ns (e ∷ es) fs = ap (λ x. walk ns (extentOf e) (e .first) ++ x) (places-append ns es fs) ∙ sym (append-assoc (walk ns (extentOf e) (e .first)) (places ns es) (places ns fs))
 
+-- as many as the entries say
 pub length-places : (ns : List ℕ) (es : List Entry) → length (places ns es) ≡ extent es
 length-places ns [] = refl
 length-places ns (e ∷ es) = length-append (walk ns (extentOf e) (e .first)) (places ns es) ∙ ap₂ _+_ (length-walk ns (extentOf e) (e .first)) (length-places ns es)
 
 -- Lists without repeats, put together.
 
+-- a place that neither part has is not in the whole
 pub absent-join : (x : ℕ) (ys zs : List ℕ) → absent x ys ≡ true → absent x zs ≡ true → absent x (ys ++ zs) ≡ true
 absent-join x [] zs h k = k
 absent-join x (y ∷ ys) zs h k =
@@ -69,6 +77,7 @@ cross-join (x ∷ xs) ys zs h k =
     let q = and-parts (absent x zs) (cross xs zs) k in
     and-from (absent x (ys ++ zs)) (cross xs (ys ++ zs)) (absent-join x ys zs (p .0) (q .0)) (cross-join xs ys zs (p .1) (q .1))
 
+-- two parts without repeats that share nothing
 pub distinct-join : (xs ys : List ℕ) → distinct xs ≡ true → distinct ys ≡ true → cross xs ys ≡ true → distinct (xs ++ ys) ≡ true
 distinct-join [] ys h k x = k
 distinct-join (x ∷ xs) ys h k c =
@@ -88,6 +97,7 @@ swap-distinct P X Y R h =
     let f = four P X Y R h in
     distinct-join P (Y ++ (X ++ R)) (f .dP) (distinct-join Y (X ++ R) (f .dY) (distinct-join X R (f .dX) (f .dR) (f .XR)) (cross-join Y X R (f .YX) (f .YR))) (cross-join P Y (X ++ R) (f .PY) (cross-join P X R (f .PX) (f .PR)))
 
+-- and they stay within the cells
 pub swap-under : (n : ℕ) (P X Y R : List ℕ) → under n (P ++ (X ++ (Y ++ R))) ≡ true → under n (P ++ (Y ++ (X ++ R))) ≡ true
 swap-under n P X Y R h =
     let a = under-append n P (X ++ (Y ++ R)) h in

@@ -67,6 +67,7 @@ kept-from c u f es cs G ns T h is full room linked same apart inside =
       inside = ap (under c) same ∙ inside;
     }
 
+-- a new store
 pub kept-new : (n : ℕ) (es : List Entry) (cs : List ℤ) (ns : List ℕ) → es ≡ [] → ns ≡ counting 1 n → length cs ≡ n → n ≤ cells → Kept n 0 0 es cs ns
 kept-new n es cs ns e is l small =
     let whole : n - 0 ≡ n = omega arith in
@@ -89,9 +90,11 @@ places-open : (ns : List ℕ) (es fs : List Entry) (w : ℕ) → fs ≡ es ++ re
 places-open ns es fs w is =
     ap (places ns) is ∙ places-append ns es (record { first = 0; width = w; count = 0 } ∷ []) ∙ ap (λ n. places ns es ++ (walk ns n 0 ++ [])) (zero-mul w) ∙ append-nil (places ns es)
 
+-- an empty table has no cells
 pub run-open : (es fs : List Entry) (cs : List ℤ) (ns : List ℕ) (w : ℕ) → fs ≡ es ++ record { first = 0; width = w; count = 0 } ∷ [] → run fs cs ns ≡ run es cs ns
 run-open es fs cs ns w is = ap (gather cs) (places-open ns es fs w is)
 
+-- opening a table
 pub kept-open : {c u f : ℕ} {es : List Entry} {cs : List ℤ} {ns : List ℕ} (w : ℕ) (fs : List Entry) → Kept c u f es cs ns → length es < tables → 1 ≤ w → w ≤ columns → fs ≡ es ++ record { first = 0; width = w; count = 0 } ∷ [] → Kept c u f fs cs ns
 kept-open {c} {u} {f} {es} {cs} {ns} w fs k l lo hi is =
     kept-from c u f fs cs (run es cs ns) ns (chains ns es (c - u) f) (held-open 0 w fs (held-kept k) l lo hi is) (run-open es fs cs ns w is) (k .full ∙ sym (extent-open es fs 0 w is)) (k .room) (k .linked) (ap (λ x. x ++ walk ns (c - u) f) (places-open ns es fs w is)) (k .apart) (k .inside)
@@ -127,6 +130,7 @@ module _ {c u f : ℕ} {es : List Entry} {cs : List ℤ} {ns : List ℕ} (k : Ke
   last-low : under (length ns) E ≡ true
   last-low = ap (λ n. under n E) (k .linked) ∙ last-inside
 
+  -- its cells are among those in use
   pub last-size : extent fs + extentOf e ≡ u
   last-size = omega (arith, k .full, extent-drop es fs e is)
 
@@ -134,6 +138,7 @@ module _ {c u f : ℕ} {es : List Entry} {cs : List ℤ} {ns : List ℕ} (k : Ke
   pub run-last : run es cs ns ≡ run fs cs ns ++ gather cs E
   run-last = ap (gather cs) places-last ∙ gather-append cs (places ns fs) E
 
+  -- by where they begin
   pub run-rest : (from : ℕ) → from ≡ extent fs → gather cs E ≡ drop from (run es cs ns)
   run-rest from at = sym (ap (drop from) run-last ∙ drop-at (run fs cs ns) (gather cs E) from (length-run fs cs ns ∙ sym at))
 
@@ -147,11 +152,13 @@ module _ {c u f : ℕ} {es : List Entry} {cs : List ℤ} {ns : List ℕ} (k : Ke
         let n : c - u′ ≡ extentOf e + (c - u) = omega (arith, u′-is, last-size, k .within) in
         ap₂ (λ x y. walk x (c - u′) y) ms-is f′-is ∙ ap (λ n. walk (joined ns (extentOf e) (e .first) f) n (headOf (extentOf e) (e .first) f)) n ∙ join-chain ns (extentOf e) (e .first) (c - u) f (parts .dX) (parts .XR) last-low
 
+    -- the run without its last cells
     pub run-drop : run fs cs ms ≡ take (length (run es cs ns) - extentOf e) (run es cs ns)
     run-drop =
         let n : length (run fs cs ns) ≡ length (run es cs ns) - extentOf e = omega (arith, length-run fs cs ns, length-run es cs ns, k .full, last-size) in
         ap (gather cs) before ∙ sym (ap (take (length (run es cs ns) - extentOf e)) run-last ∙ take-at (run fs cs ns) (gather cs E) (length (run es cs ns) - extentOf e) n)
 
+    -- dropping the last table
     pub kept-drop : Kept c u′ f′ fs cs ms
     kept-drop =
         kept-from c u′ f′ fs cs (run fs cs ms) ms (chains ns es (c - u) f) (held-drop fs e (run fs cs ms) (held-kept k) is run-drop) refl (omega (arith, u′-is, last-size)) (k .room) (ap length ms-is ∙ length-joined ns (extentOf e) (e .first) f ∙ k .linked) (ap₂ _++_ before freed ∙ sym whole) (k .apart) (k .inside)
@@ -199,6 +206,7 @@ module _ {c u f : ℕ} {es : List Entry} {cs : List ℤ} {ns : List ℕ} (k : Ke
     same-chains : chains ms es′ (c - u′) f′ ≡ chains ns es (c - u) f
     same-chains = ap₂ _++_ places-add left-free ∙ append-assoc (places ns es) W R ∙ ap (λ x. places ns es ++ x) (sym two)
 
+    -- the run with the row at its end
     pub run-add : run es′ ds ms ≡ run es cs ns ++ row
     run-add =
         let all : chains ns es (c - u) f ≡ (places ns es ++ W) ++ R = ap (λ x. places ns es ++ x) two ∙ sym (append-assoc (places ns es) W R) in
@@ -206,6 +214,7 @@ module _ {c u f : ℕ} {es : List Entry} {cs : List ℤ} {ns : List ℕ} (k : Ke
         let g = gather-added cs (places ns es) W R row (ap distinct (sym all) ∙ k .apart) (ap (λ n. under n ((places ns es ++ W) ++ R)) (k .room) ∙ ap (under c) (sym all) ∙ k .inside) (wide ∙ sym (length-walk ns w f)) in
         ap₂ (λ x y. gather x y) wrote places-add ∙ gather-append (put cs W row) (places ns es) W ∙ ap₂ _++_ (g .0) (g .1)
 
+    -- adding a row
     pub kept-add : Held c es′ (run es cs ns ++ row) → Kept c u′ f′ es′ ds ms
     kept-add held =
         kept-from c u′ f′ es′ ds (run es cs ns ++ row) ms (chains ns es (c - u) f) held run-add (omega (arith, held .full, length-append (run es cs ns) row, length-run es cs ns, k .full, u′-is, wide)) (ap length ds-is ∙ length-put cs (walk ms w f) row ∙ k .room) (ap length ms-is ∙ length-joined ns (extentOf e) (e .first) f ∙ k .linked) same-chains (k .apart) (k .inside)

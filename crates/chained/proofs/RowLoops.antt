@@ -22,15 +22,18 @@ by-same false h = refl
 reads-step : (cs row : List ℤ) (ns : List ℕ) (i at : ℕ) → i < length row → sameRow (gather cs (walk ns (length row - i) at)) (drop i row) ≡ (sameCell (getD cs at (pos 0)) (getD row i (pos 0)) && sameRow (gather cs (walk ns (length row - (i + 1)) (getD ns at 0))) (drop (i + 1) row))
 reads-step cs row ns i at l = ap₂ (λ is xs. sameRow (gather cs is) xs) (walk-next ns (length row) i at l) (drop-more row i (pos 0) l)
 
+-- a cell that differs: the rows do
 pub reads-other : (cs row : List ℤ) (ns : List ℕ) (i at : ℕ) → i < length row → (getD cs at (pos 0) ≡ getD row i (pos 0) → ⊥) → sameRow (gather cs (walk ns (length row - i) at)) (drop i row) ≡ false
 reads-other cs row ns i at l ne =
     reads-step cs row ns i at l ∙ ap (λ b. b && sameRow (gather cs (walk ns (length row - (i + 1)) (getD ns at 0))) (drop (i + 1) row)) (by-same (sameCell (getD cs at (pos 0)) (getD row i (pos 0))) (λ e. ne (same-cell-true _ _ e)))
 
+-- a cell that is the same: the rest decides
 pub reads-same : (cs row : List ℤ) (ns : List ℕ) (i at : ℕ) → i < length row → getD cs at (pos 0) ≡ getD row i (pos 0) → sameRow (gather cs (walk ns (length row - i) at)) (drop i row) ≡ sameRow (gather cs (walk ns (length row - (i + 1)) (getD ns at 0))) (drop (i + 1) row)
 reads-same cs row ns i at l eq =
     let same : sameCell (getD cs at (pos 0)) (getD row i (pos 0)) ≡ true = ap (λ x. sameCell x (getD row i (pos 0))) eq ∙ same-cell-refl (getD row i (pos 0)) in
     reads-step cs row ns i at l ∙ ap (λ b. b && sameRow (gather cs (walk ns (length row - (i + 1)) (getD ns at 0))) (drop (i + 1) row)) same
 
+-- no cell is left to differ
 pub reads-end : (cs row : List ℤ) (ns : List ℕ) (i at : ℕ) → length row ≤ i → sameRow (gather cs (walk ns (length row - i) at)) (drop i row) ≡ true
 reads-end cs row ns i at l =
     let z : length row - i ≡ 0 = omega arith in
@@ -44,6 +47,7 @@ rows-next ns count k w at l =
     let n : (count - k) * w ≡ w + m * w = ap (λ x. x * w) e ∙ add-mul m 1 w ∙ omega (arith, one-mul w) in
     ap (λ x. walk ns x at) n ∙ walk-add ns w (m * w) at
 
+-- the rows from number k on: row k, or one of those after it
 pub holds-step : (cs row : List ℤ) (ns : List ℕ) (count k w at : ℕ) → k < count → has (chunk (count - k) w (gather cs (walk ns ((count - k) * w) at))) row ≡ (sameRow (gather cs (walk ns w at)) row || has (chunk (count - (k + 1)) w (gather cs (walk ns ((count - (k + 1)) * w) (step ns w at)))) row)
 holds-step cs row ns count k w at l =
     let m : ℕ = count - (k + 1) in
@@ -54,6 +58,7 @@ holds-step cs row ns count k w at l =
     let long : length X ≡ w = length-gather cs (walk ns w at) ∙ length-walk ns w at in
     ap₂ (λ n xs. has (chunk n w xs) row) e cut ∙ ap₂ (λ x y. sameRow x row || has (chunk m w y) row) (take-at X Y w long) (drop-at X Y w long)
 
+-- row k and the rows after it are within the cells
 pub holds-under : (u : ℕ) (ns : List ℕ) (count k w at : ℕ) → k < count → under u (walk ns ((count - k) * w) at) ≡ true → (under u (walk ns w at) ≡ true) × (under u (walk ns ((count - (k + 1)) * w) (step ns w at)) ≡ true)
 holds-under u ns count k w at l h =
     under-append u (walk ns w at) (walk ns ((count - (k + 1)) * w) (step ns w at)) (ap (under u) (sym (rows-next ns count k w at l)) ∙ h)
@@ -65,6 +70,7 @@ write-step cs ds row ns i at from x l is ds-is x-is =
     let longer : take (i + 1) row ≡ take i row ++ x ∷ [] = take-more row i (pos 0) l ∙ ap (λ y. take i row ++ y ∷ []) (sym x-is) in
     (ap (λ p. getD ns p 0) is ∙ sym (step-add ns i 1 from), ap (λ y. set y at x) ds-is ∙ sym (put-more cs (walk ns i from) (take i row) at x (length-take-le i row (omega arith) ∙ sym (length-walk ns i from))) ∙ ap₂ (put cs) (sym more) (sym longer))
 
+-- one of two is enough
 pub by-or : (b d : Bool) → b ≡ true → (b || d) ≡ true
 by-or b d h = ap (λ x. x || d) h
 

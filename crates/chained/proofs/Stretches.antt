@@ -18,9 +18,11 @@ pub record Seg (ns : List ℕ) (n i : ℕ) (is : List ℕ) (j : ℕ) : Type 0 wh
   pub places : walk ns n i ≡ is
   pub goes : step ns n i ≡ j
 
+-- every walk is one
 pub seg-of : (ns : List ℕ) (n i : ℕ) → Seg ns n i (walk ns n i) (step ns n i)
 seg-of ns n i = record { places = refl; goes = refl }
 
+-- two of them, the second where the first goes on
 pub seg-join : {ns : List ℕ} {m n i j k : ℕ} {is js : List ℕ} → Seg ns m i is j → Seg ns n j js k → Seg ns (m + n) i (is ++ js) k
 seg-join {ns} {m} {n} {i} {j} a b =
     record {
@@ -37,6 +39,7 @@ walk-frame ns a b (suc n) i h =
     let r = walk-frame ns a b n (getD ns i 0) (p .1) in
     (ap (λ xs. i ∷ xs) (ap (walk (set ns a b) n) same ∙ r .0), ap (step (set ns a b) n) same ∙ r .1)
 
+-- a stretch that the changed link is not on stays
 pub seg-frame : {ns : List ℕ} {n i j : ℕ} {is : List ℕ} (a b : ℕ) → Seg ns n i is j → absent a is ≡ true → Seg (set ns a b) n i is j
 seg-frame {ns} {n} {i} a b s h =
     let r = walk-frame ns a b n i (ap (absent a) (s .places) ∙ h) in
@@ -55,6 +58,7 @@ walk-relink ns b n i d l =
     up : n + 1 ≡ suc n
     up = omega arith
 
+-- a new link at the end of a stretch only changes where it goes on
 pub seg-relink : {ns : List ℕ} {n i j : ℕ} {is : List ℕ} (last b : ℕ) → Seg ns (suc n) i is j → distinct is ≡ true → last ≡ step ns n i → last < length ns → Seg (set ns last b) (suc n) i is b
 seg-relink {ns} {n} {i} last b s d e l =
     let r = walk-relink ns b n i (ap distinct (s .places) ∙ d) (subst (λ x. x < length ns) e l) in
@@ -66,12 +70,14 @@ cross-last ns zero i is js e h = and-parts (absent i js) true (ap (λ x. cross x
 cross-last ns (suc n) i is js e h =
     cross-last ns n (getD ns i 0) (walk ns (suc n) (getD ns i 0)) js refl (and-parts (absent i js) (cross (walk ns (suc n) (getD ns i 0)) js) (ap (λ x. cross x js) e ∙ h) .1)
 
+-- parts of a list without repeats share no place
 pub cross-front : (xs ys : List ℕ) → distinct (xs ++ ys) ≡ true → cross xs ys ≡ true
 cross-front [] ys h = refl
 cross-front (x ∷ xs) ys h =
     let p = and-parts (absent x (xs ++ ys)) (distinct (xs ++ ys)) h in
     and-from (absent x ys) (cross xs ys) (absent-append x xs ys (p .0) .1) (cross-front xs ys (p .1))
 
+-- sharing no place with a list is sharing none with its parts
 pub cross-append : (xs ys zs : List ℕ) → cross xs (ys ++ zs) ≡ true → (cross xs ys ≡ true) × (cross xs zs ≡ true)
 cross-append [] ys zs h = (refl, refl)
 cross-append (x ∷ xs) ys zs h =
@@ -111,6 +117,7 @@ distinct-mid xs (y ∷ ys) zs h =
         let p = and-parts (absent y xs) (cross (ys ++ zs) xs) c in
         and-from (absent y xs) (cross ys xs) (p .0) (go ys (p .1))
 
+-- as four parts of a list without repeats are
 pub four : (P X Y R : List ℕ) → distinct (P ++ (X ++ (Y ++ R))) ≡ true → Four P X Y R
 four P X Y R h =
     let h1 = distinct-append P (X ++ (Y ++ R)) h .0 in

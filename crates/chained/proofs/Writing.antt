@@ -12,10 +12,12 @@ use Rattle.std.proofs.shelf.Tests.{and-from, and-parts, not-true, not-from-fals
 use Rattle.std.proofs.shelf.Lists.{length-set, getD-set-same, getD-set-other}
 use Rattle.chained.specs.Chains.{gather, absent, distinct, under, put}
 
+-- no place of the first list is in the second
 abbrev pub cross : List ℕ → List ℕ → Bool
 cross [] js = true
 cross (i ∷ is) js = absent i js && cross is js
 
+-- a place that is in neither part
 pub absent-append : (x : ℕ) (js is : List ℕ) → absent x (js ++ is) ≡ true → (absent x js ≡ true) × (absent x is ≡ true)
 absent-append x [] is h = (refl, h)
 absent-append x (j ∷ js) is h =
@@ -35,6 +37,7 @@ cross-nil : (is : List ℕ) → cross is [] ≡ true
 cross-nil [] = refl
 cross-nil (i ∷ is) = cross-nil is
 
+-- the second part of a list without repeats has none, and shares no place with the first
 pub distinct-append : (js is : List ℕ) → distinct (js ++ is) ≡ true → (distinct is ≡ true) × (cross is js ≡ true)
 distinct-append [] is h = (h, cross-nil is)
 distinct-append (j ∷ js) is h =
@@ -42,12 +45,14 @@ distinct-append (j ∷ js) is h =
     let r = distinct-append js is (p .1) in
     (r .0, cross-cons j is js (absent-append j js is (p .0) .1) (r .1))
 
+-- nor has the first part any
 pub distinct-front : (js is : List ℕ) → distinct (js ++ is) ≡ true → distinct js ≡ true
 distinct-front [] is h = refl
 distinct-front (j ∷ js) is h =
     let p = and-parts (absent j (js ++ is)) (distinct (js ++ is)) h in
     and-from (absent j js) (distinct js) (absent-append j js is (p .0) .0) (distinct-front js is (p .1))
 
+-- both parts of a list within the cells are within them
 pub under-append : (n : ℕ) (js is : List ℕ) → under n (js ++ is) ≡ true → (under n js ≡ true) × (under n is ≡ true)
 under-append n [] is h = (refl, h)
 under-append n (j ∷ js) is h =
@@ -55,6 +60,7 @@ under-append n (j ∷ js) is h =
     let r = under-append n js is (p .1) in
     (and-from (ltb j n) (under n js) (p .0) (r .0), r .1)
 
+-- writing adds no cell
 pub length-put : (cs : List ℤ) (is : List ℕ) (xs : List ℤ) → length (put cs is xs) ≡ length cs
 length-put cs [] xs = refl
 length-put cs (i ∷ is) [] = refl
@@ -98,6 +104,7 @@ gather-added cs js is rest xs d u l =
     let v = under-append (length cs) js is (under-append (length cs) (js ++ is) rest u .0) in
     (gather-cross cs is xs js (p .1), gather-put cs is xs (p .0) (v .1) l)
 
+-- one cell more is written
 pub put-more : (cs : List ℤ) (is : List ℕ) (xs : List ℤ) (i : ℕ) (x : ℤ) → length xs ≡ length is → put cs (is ++ i ∷ []) (xs ++ x ∷ []) ≡ set (put cs is xs) i x
 put-more cs [] [] i x l = refl
 put-more cs [] (y ∷ xs) i x l = absurd (omega arith)

@@ -25,7 +25,12 @@ fn fill<S: RowStore>(store: &mut S, rows: u16) -> u16 {
     accepted
 }
 
-fn measure<S: RowStore>(rt: &LibcRuntime, name: &str, store: &mut S, timed: bool) -> io::Result<()> {
+fn measure<S: RowStore>(
+    rt: &LibcRuntime,
+    name: &str,
+    store: &mut S,
+    timed: bool,
+) -> io::Result<()> {
     let size = store.capacity();
     if size == 0 {
         return Ok(());

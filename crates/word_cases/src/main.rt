@@ -17,19 +17,31 @@ fn hexadecimal(b: u8) -> u8 {
     }
 }
 
+// How far an escape has been read.
+#[derive(Clone, Copy)]
+enum Escape {
+    Outside,
+    First,
+    Second(u8),
+}
+
 // The bytes that a line stands for.
 fn unescaped(heap: Global, line: &[u8]) -> Result<Vec<u8>, AllocError> {
     let mut bytes = Vec::new(heap);
-    let mut rest = line;
-    while let [b, after @ ..] = rest {
-        rest = after;
-        match rest {
-            [high, low, after @ ..] if *b == b'%' => {
-                bytes.push(hexadecimal(*high) << 4 | hexadecimal(*low))?;
-                rest = after;
+    let mut escape = Escape::Outside;
+    for b in line {
+        escape = match escape {
+            Escape::Outside if *b == b'%' => Escape::First,
+            Escape::Outside => {
+                bytes.push(*b)?;
+                Escape::Outside
             }
-            _ => bytes.push(*b)?,
-        }
+            Escape::First => Escape::Second(hexadecimal(*b)),
+            Escape::Second(high) => {
+                bytes.push(high << 4 | hexadecimal(*b))?;
+                Escape::Outside
+            }
+        };
     }
     Ok(bytes)
 }
