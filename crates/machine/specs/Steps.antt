@@ -218,12 +218,12 @@ kept true r = some r
 kept false r = none
 
 -- exists and all look for a row with a truth value, and drop the table when they know
-abbrev pub deciding : Bool → Place → State → State
-deciding b p s = popTable s (λ n t. dropping p t (λ u. pushTruth b u))
+abbrev pub deciding : Bool → Place → State → (State → State) → State
+deciding b p s f = popTable s (λ n t. dropping p t (λ u. f (pushTruth b u)))
 
 abbrev pub searching : Bool → ℕ → Place → State → State
 searching without gap p s =
-    popTable s (λ n t. withTable n t (λ old. entering (old .rows) (overOne n 0 0) gap s (goto (s .counter + (gap + 2)) (deciding without p s))))
+    popTable s (λ n t. withTable n t (λ old. entering (old .rows) (overOne n 0 0) gap s (deciding without p s (goto (s .counter + (gap + 2))))))
 
 abbrev pub hit : Bool → Bool → Bool
 hit true b = b
@@ -233,8 +233,8 @@ hit false b = not b
 abbrev pub searched : Bool → ℕ → Place → State → State
 searched wanted gap p s =
     popTruth s (λ b t. whenOne (t .contexts) t (λ n r k outer. withTable n t (λ old.
-    cond (hit wanted b) (next (deciding wanted p (withContexts outer t)))
-    (again old n r k outer gap t (next (deciding (not wanted) p (withContexts outer t)))))))
+    cond (hit wanted b) (deciding wanted p (withContexts outer t) next)
+    (again old n r k outer gap t (deciding (not wanted) p (withContexts outer t) next)))))
 
 -- Join.
 
