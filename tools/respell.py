@@ -18,7 +18,7 @@ import sys
 WORD = re.compile(r'[^\s(){}.;,@"«»]+')
 QUIET = re.compile(r'"(?:[^"\\\n]|\\.)*"|(?<![^\s(){}.;,@"«»])--[^\n]*|\{-.*?-\}', re.S)
 SPAN = re.compile(r"`[^`\n]*`")
-USE = re.compile(r"\buse +([^\s{};]+?)(?:\.\{([^}]*)\})?(?: as (\S+))?(?=\s|;|$)")
+USE = re.compile(r"\buse +([^\s{};]+?)(?:\.\{([^}]*)\})?(?: as ([^\s;]+))?(?=\s|;|$)")
 DECLARED = re.compile(r"(?m)^( *)((?:(?:pub|abbrev|unfoldable|record|data) +)*)((?:[^\s(){}.;,@\"«»]+ )*?[^\s(){}.;,@\"«»]+)((?: \{[^{}\n]*\}| \([^()\n]*\))*) :(?= |$)(.*)")
 CLAUSE = re.compile(r"(?:requires|ensures)\*?\s*(?:\w+\s*)?\{|ghost\s+\w+\s*(?::|=)\s*(?:\w+\s+)?\{|ghost\s*\{")
 GENERATED = re.compile(r"^Rattle\.\w+\.(specs\.declared|proofs\.(?:.*\.)?(?:Goals|Given))(\.|$)")

@@ -1,5 +1,7 @@
 // The domains of atoms. One table, specs/Domains.antt, has all that is particular to a domain:
 // a further domain is one more line there and one more case here.
+#![tactic(auto)]
+
 ghost use Rattle.std.specs.Prelude.{◌≡◌};
 ghost use Rattle.domain.specs.Domains.{word_of, letter_of, domain_of, LettersTell};
 

@@ -1,5 +1,7 @@
 // Shows a place of a text to a person: its line, and a caret under the byte.
 // Every byte takes one column, so that the caret stands right whatever the text holds.
+#![tactic(auto)]
+
 ghost use Rattle.std.specs.Prelude.{◌≡◌};
 ghost use Rattle.excerpt.specs.Excerpts.{LineStart, LineEnd, printed};
 

@@ -1,4 +1,6 @@
 // Expressions and factors, which contain each other, and the table constants in them.
+#![tactic(auto)]
+
 pub mod expressions;
 pub mod sorts;
 pub mod tables;

@@ -1,5 +1,7 @@
 // Faults: what a refusal tells, and the limits that refusals are measured by.
 // Every layer passes this one type on, so it knows nothing of any layer.
+#![tactic(auto)]
+
 pub mod limits;
 pub mod rules;
 pub mod shown;

@@ -1,5 +1,7 @@
 // Inference: the result type of each operator, given its operands' types, or the fault.
 // Nothing here knows of nodes or scopes: the checker asks for these steps one by one.
+#![tactic(auto)]
+
 pub mod columns;
 pub mod kinds;
 pub mod spots;

@@ -1,6 +1,8 @@
 // Lines: what a host collects and is asked for. Each call writes one line, with its line feed, at the start of a buffer
 // of at least `LINE_BYTES` bytes, and leaves the bytes behind the line as they were.
 // Nothing here knows of a run or of a store: values come in ready to be shown.
+#![tactic(auto)]
+
 mod buffers;
 pub mod calls;
 mod columns;

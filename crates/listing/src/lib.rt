@@ -1,6 +1,8 @@
 // Listings: the texts of tables and atoms, read in place.
 // A reader goes over the supplied bytes once and copies nothing; what it refuses it refuses with a place.
 // The format, and what its readers promise, stand in the crate texts.
+#![tactic(auto)]
+
 mod cell;
 mod headings;
 pub mod names;

@@ -1,5 +1,7 @@
 // Trials of the reader of whole texts: each text with what is expected of it. Tests only.
 // The expected places come from a small reader of its own, written apart from this one.
+#![tactic(auto)]
+
 use domain::Domain;
 use fault::Layer;
 use listing::read_table;

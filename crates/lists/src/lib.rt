@@ -1,5 +1,7 @@
 // The lists of a tree, node by node: the columns that types, constants, names and attributes stand for.
 // Each function follows the links of one list. An arena that holds no tree is read safely and answers something.
+#![tactic(auto)]
+
 pub mod arena;
 pub mod constants;
 pub mod names;

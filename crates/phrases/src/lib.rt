@@ -1,5 +1,7 @@
 // The small phrases of scripts, and what every parser function does: pull a token, expect one, put a node.
 // Expressions and statements are built from these in crates of their own.
+#![tactic(auto)]
+
 pub mod leaves;
 pub mod lists;
 pub mod parsers;

@@ -1,5 +1,7 @@
 // Strings by number: those of a script, those read before, and those that a text brings.
 // The search for a string is one function; nothing here keeps strings of its own but as parts of texts.
+#![tactic(auto)]
+
 pub mod find;
 pub mod fresh;
 pub mod known;

@@ -1,5 +1,7 @@
 // Schemas: up to `COLUMNS` attributes in order, and when two types are the same.
 // Names are parts of a text, so a schema is read together with that text. Nothing here knows of scopes or expressions.
+#![tactic(auto)]
+
 pub mod attributes;
 pub mod building;
 pub mod kinds;

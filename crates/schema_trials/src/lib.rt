@@ -1,4 +1,6 @@
 // Trials of schemas, scopes and inference: small columns over the text `aba`, each with what the rules give. Tests only.
+#![tactic(auto)]
+
 use domain::Domain;
 use fault::limits::COLUMNS;
 use inference::{Spot, extend, join};

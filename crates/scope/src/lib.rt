@@ -1,5 +1,7 @@
 // Scopes: nested lists of entries that have names, and the search for a name in them.
 // One text serves every kind of entry: `chain`. What an expression or a statement adds to a scope is not known here.
+#![tactic(auto)]
+
 pub mod chain;
 pub mod entries;
 pub mod nesting;

@@ -1,6 +1,8 @@
 // The row store: what a store of tables is to its callers, whatever its layout.
 // The meaning stands in specs/Meaning.antt; the trait `RowStore` promises it, call by call.
 // Layouts are crates of their own (packed, chained, ledger) and know nothing of each other.
+#![tactic(auto)]
+
 pub mod calls;
 pub mod refusals;
 pub mod row_store;

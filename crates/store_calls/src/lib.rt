@@ -1,5 +1,7 @@
 // Store calls as text: one call a line, one line of reply for each, over any store.
 // `open W`, `add N..`, `drop`, `settle N`, `capacity`, `left`, `tables`, `width T`, `rows T`, `cell T R C`.
+#![tactic(auto)]
+
 pub mod reading;
 pub mod responses;
 

@@ -1,4 +1,6 @@
 // Makes the store calls of the input over each of the stores in turn, and prints the replies of each. All stores reply alike.
+#![tactic(auto)]
+
 use chained::Chained;
 use ledger::Ledger;
 use packed::Packed;

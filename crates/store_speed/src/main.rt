@@ -1,5 +1,7 @@
 // How long an add takes: each store is filled with rows of one column, and then given the same rows again.
 // Prints how many adds were accepted; with an argument, also the nanoseconds of one add, of a new row and of a repeat.
+#![tactic(auto)]
+
 use chained::Chained;
 use fault::limits::COLUMNS;
 use ledger::Ledger;

@@ -1,4 +1,6 @@
 // One text of tests for every store: what the calls of a text are answered by, whatever the layout.
+#![tactic(auto)]
+
 #[cfg(test)]
 mod tests {
     use chained::Chained;

@@ -1,4 +1,6 @@
 // The program `table`: reads its options, calls the library, prints what was done.
+#![tactic(auto)]
+
 mod example;
 
 use anyhow::anyhow;
@@ -83,10 +85,10 @@ fn check_file(rt: &HostRuntime, name: &str) -> anyhow::Result<()> {
 
 fn main(rt: HostRuntime) -> anyhow::Result<()> {
     let words: Vec<String> = env::args(&rt)?.skip(1).collect(rt.alloc())?;
-    if words.is_empty() || (words.len() == 1 && words[0] == "check") {
+    if words.is_empty() || (words.len() == 1 && words[0].as_str() == "check") {
         return check(&rt, "built-in example", example::SCRIPT.to_vec(rt.alloc())?);
     }
-    if words.len() == 2 && words[0] == "check" {
+    if words.len() == 2 && words[0].as_str() == "check" {
         return check_file(&rt, words[1].as_str());
     }
     eprintln!(rt; "{USAGE}")?;

@@ -1,5 +1,7 @@
 // The texts of values, rows and tables: the format as a language, its readers as definitions, and what they promise.
 // Definitions and proofs alone; the crates that read and write bytes are held to them.
+#![tactic(auto)]
+
 ghost use Rattle.texts.specs.Promise.{TablesExact, AtomsExact};
 ghost use Rattle.texts.specs.Layers.{TablesByLayer, AtomsByLayer};
 ghost use Rattle.texts.specs.Roundtrip.{TablesReadBack, AtomsReadBack, OneText};

@@ -1,5 +1,7 @@
 // Examples of words: each line of the input is a text, and its tokens and fault are printed with their places.
 // A byte that a line cannot hold is written %XX. The expected output is made from the rules, not from this program.
+#![tactic(auto)]
+
 use std::alloc::{AllocError, Global};
 use std::io::{BufRead, BufReader};
 use words::{Scanner, Text, Token};

@@ -1,5 +1,7 @@
 // The words of a script: its text, taken apart into tokens that borrow their bytes from it.
 // Nothing here knows which token may follow which.
+#![tactic(auto)]
+
 mod cursors;
 mod keywords;
 mod letters;

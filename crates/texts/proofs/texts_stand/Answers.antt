@@ -10,9 +10,9 @@ pub returns : goal.returns
 returns c = record {
   tables = λ cs. exact (TableText cs) (read_table cs) (table_reads cs);
   atoms = λ d. exact (AtomText d) (read_atom d) (atom_reads d);
-  table-layers = tables_by_layer;
-  atom-layers = atoms_by_layer;
-  tables-back = tables_read_back;
-  atoms-back = atoms_read_back;
+  table_layers = tables_by_layer;
+  atom_layers = atoms_by_layer;
+  tables_back = tables_read_back;
+  atoms_back = atoms_read_back;
   one_text = one_text;
 }

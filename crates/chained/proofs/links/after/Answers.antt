@@ -7,4 +7,4 @@ bounds-links-at c = (under_next _ _ _ _ _ c.loop-i-test.true c.loop-i.invariant.
 
 pub loop-i-preserved : goal.loop-i-preserved
 loop-i-preserved c =
-    (sym (step_next _ _ _ _ c.loop-i-test.true) ∙ c.loop-i.invariant.0, (under_next _ _ _ _ _ c.loop-i-test.true c.loop-i.invariant.1).1, (c.type-inv.links c.loop-i.at).fits)
+    (sym (step_next _ _ _ _ c.loop-i-test.true) ∙ c.loop-i.invariant.0, (under_next _ _ _ _ _ c.loop-i-test.true c.loop-i.invariant.1).1, (c.type_inv.links c.loop-i.at).fits)

@@ -6,4 +6,4 @@ use Rattle.chained.proofs.links.free_chain.Goals as goal
 
 pub loop-i-preserved : goal.loop-i-preserved
 loop-i-preserved c =
-    pushed _ c.loop-i.invariant c.in-ok-push.was c.push.ensures.items ∙ ap (λ x. range_with_len 1 c.loop-i.i ++ x ∷ []) (omega arith) ∙ sym (counting_push 1 c.loop-i.i)
+    pushed _ c.loop-i.invariant c.in_ok-push.was c.push.ensures.items ∙ ap (λ x. range_with_len 1 c.loop-i.i ++ x ∷ []) (omega arith) ∙ sym (counting_push 1 c.loop-i.i)

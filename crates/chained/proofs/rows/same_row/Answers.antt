@@ -20,7 +20,7 @@ loop-i-preserved c =
     let fx : SFits w64 x = search rules in
     let fy : SFits w64 y = search rules in
     let same : x ≡ y = sym (to_z-of_z w64 x fx) ∙ ap (to_z w64) c.if-cells-at.false ∙ to_z-of_z w64 y fy in
-    (sym (reads_same _ _ _ _ _ c.loop-i-test.true same) ∙ c.loop-i.invariant.0, (under_next _ _ _ _ _ c.loop-i-test.true c.loop-i.invariant.1).1, (c.type-inv.links c.loop-i.at).fits)
+    (sym (reads_same _ _ _ _ _ c.loop-i-test.true same) ∙ c.loop-i.invariant.0, (under_next _ _ _ _ _ c.loop-i-test.true c.loop-i.invariant.1).1, (c.type_inv.links c.loop-i.at).fits)
 
 pub returns : goal.returns
 returns c = sym (reads_end _ _ _ _ _ c.loop-i-test.false) ∙ c.loop-i.invariant.0

@@ -17,7 +17,7 @@ loop-i-preserved c =
     let x = get_or c.args.row.now c.loop-i.i (pos 0) in
     let f : SFits w64 x = search rules in
     let r = write_step _ _ _ _ _ _ _ _ c.loop-i-test.true c.loop-i.invariant.0 c.loop-i.invariant.1 (to_z-of_z w64 x f) in
-    (r.0, r.1, (c.type-inv.links c.loop-i.at).fits)
+    (r.0, r.1, (c.type_inv.links c.loop-i.at).fits)
 
 pub returns : goal.returns
 returns c =

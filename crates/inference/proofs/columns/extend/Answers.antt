@@ -7,14 +7,14 @@ use Rattle.inference.proofs.columns.extend.Goals as goal
 pub returns-in-None : goal.returns-in-None
 returns-in-None c = λ n spelled. ap Err c.fault.ensures ∙ column_crowded c.args.text.now (held c.args.schema) _ n _ _ _ c.in-None.ensures
 
-pub returns-then-meets-in : goal.returns-then-meets-in
-returns-then-meets-in c = λ n spelled.
-    ap Err c.fault-then-meets-in.ensures
+pub returns-then-meets_in : goal.returns-then-meets_in
+returns-then-meets_in c = λ n spelled.
+    ap Err c.fault-then-meets_in.ensures
     ∙ column_old c.args.text.now (held c.args.schema) _ (held c.in-Some.longer) n _ _ _ c.in-Some.ensures
-    (sym c.if-meets-in.true ∙ c.meets-in.ensures ∙ ap (λ o. meets_in (map (column_of c.args.text.now) c.attributes.result.now) o) spelled ∙ ap (λ l. meets_in (map (column_of c.args.text.now) l) (Some n)) c.attributes.ensures)
+    (sym c.if-meets_in.true ∙ c.meets_in.ensures ∙ ap (λ o. meets_in (map (column_of c.args.text.now) c.attributes.result.now) o) spelled ∙ ap (λ l. meets_in (map (column_of c.args.text.now) l) (Some n)) c.attributes.ensures)
 
-pub returns-else-meets-in : goal.returns-else-meets-in
-returns-else-meets-in c = λ n spelled.
+pub returns-else-meets_in : goal.returns-else-meets_in
+returns-else-meets_in c = λ n spelled.
     column_new c.args.text.now (held c.args.schema) _ (held c.in-Some.longer) n _ _ _ c.in-Some.ensures
-    (sym c.if-meets-in.false ∙ c.meets-in.ensures ∙ ap (λ o. meets_in (map (column_of c.args.text.now) c.attributes.result.now) o) spelled ∙ ap (λ l. meets_in (map (column_of c.args.text.now) l) (Some n)) c.attributes.ensures)
+    (sym c.if-meets_in.false ∙ c.meets_in.ensures ∙ ap (λ o. meets_in (map (column_of c.args.text.now) c.attributes.result.now) o) spelled ∙ ap (λ l. meets_in (map (column_of c.args.text.now) l) (Some n)) c.attributes.ensures)
     (ap (λ o. record { name = o; domain = c.args.domain }) spelled)

@@ -8,5 +8,5 @@ returns c =
     let next = c.args.at + length c.args.bytes.now in
     record {
       next = refl;
-      bytes = λ front whole l e. ap (put_mid c.args.at (next - c.args.at) c.args.line.now) c.copy-from-slice.ensures.after ∙ part_writes c.args.line.now c.args.bytes.now c.args.at next refl front whole l e;
+      bytes = λ front whole l e. ap (put_mid c.args.at (next - c.args.at) c.args.line.now) c.copy_from_slice.ensures.after ∙ part_writes c.args.line.now c.args.bytes.now c.args.at next refl front whole l e;
     }

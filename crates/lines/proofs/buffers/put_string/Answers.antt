@@ -7,8 +7,8 @@ pub returns : goal.returns
 returns c =
     let bytes = c.args.bytes.now in
     record {
-      next = omega (arith, string_length bytes, c.put-inside.ensures.next, c.put-all-close.ensures.next, c.put.ensures.next);
-      end = omega (arith, c.put-inside.ensures.next, c.put-all-close.ensures.next, c.put.ensures.next);
+      next = omega (arith, string_length bytes, c.put-inside.ensures.next, c.put_all-close.ensures.next, c.put.ensures.next);
+      end = omega (arith, c.put-inside.ensures.next, c.put_all-close.ensures.next, c.put.ensures.next);
       bytes = writes_then _ _ quote _ _ _ _ c.put-inside.ensures.next c.put-inside.ensures.bytes
-          (writes_then _ _ bytes quote _ _ _ c.put-all-close.ensures.next c.put-all-close.ensures.bytes c.put.ensures.bytes);
+          (writes_then _ _ bytes quote _ _ _ c.put_all-close.ensures.next c.put_all-close.ensures.bytes c.put.ensures.bytes);
     }

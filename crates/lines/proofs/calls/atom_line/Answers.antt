@@ -9,8 +9,8 @@ returns c =
     let value = value_of c.args.sources c.args.value in
     let long = length-append (value_bytes value) (codes "\n") in
     record {
-      reply = line_reply_lem (atom_line value) c.args.line.now _ (omega arith) (omega (arith, long, c.put-value-end.ensures.next, c.put.ensures.next));
+      reply = line_reply_lem (atom_line value) c.args.line.now _ (omega arith) (omega (arith, long, c.put_value-end.ensures.next, c.put.ensures.next));
       after = line_after_lem (atom_line value) c.args.line.now _ (omega arith)
-          (writes_then 0 _ (value_bytes value) (codes "\n") _ _ _ c.put-value-end.ensures.next c.put-value-end.ensures.bytes c.put.ensures.bytes);
-      fits = omega (arith, c.put-value-end.ensures.short, c.put.ensures.next);
+          (writes_then 0 _ (value_bytes value) (codes "\n") _ _ _ c.put_value-end.ensures.next c.put_value-end.ensures.bytes c.put.ensures.bytes);
+      fits = omega (arith, c.put_value-end.ensures.short, c.put.ensures.next);
     }

@@ -5,7 +5,7 @@ use Rattle.lines.proofs.calls.end_line.Goals as goal
 
 pub returns : goal.returns
 returns c = record {
-  reply = line_reply_lem end_line c.args.line.now _ (omega arith) c.put-all.ensures.next;
-  after = line_after_lem end_line c.args.line.now _ (omega arith) c.put-all.ensures.bytes;
-  fits = omega (arith, c.put-all.ensures.next);
+  reply = line_reply_lem end_line c.args.line.now _ (omega arith) c.put_all.ensures.next;
+  after = line_after_lem end_line c.args.line.now _ (omega arith) c.put_all.ensures.bytes;
+  fits = omega (arith, c.put_all.ensures.next);
 }

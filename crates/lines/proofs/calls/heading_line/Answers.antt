@@ -8,7 +8,7 @@ pub returns : goal.returns
 returns c =
     let line = heading_line (schema_of c.args.script.now c.args.schema.now) in
     record {
-      reply = line_reply_lem line c.args.line.now _ (omega arith) (omega (arith, c.put-heading.ensures.next));
-      after = line_after_lem line c.args.line.now _ (omega arith) c.put-heading.ensures.bytes;
-      fits = omega (arith, c.put-heading.ensures.short);
+      reply = line_reply_lem line c.args.line.now _ (omega arith) (omega (arith, c.put_heading.ensures.next));
+      after = line_after_lem line c.args.line.now _ (omega arith) c.put_heading.ensures.bytes;
+      fits = omega (arith, c.put_heading.ensures.short);
     }

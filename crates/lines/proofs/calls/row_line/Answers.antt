@@ -15,7 +15,7 @@ returns c =
     let few : length (held c.args.schema.now) ≤ columns = search rules in
     let row = row_line (values_of c.args.sources (length (held c.args.schema.now)) c.args.values.now) in
     record {
-      reply = line_reply_lem row c.args.line.now _ (omega arith) (omega (arith, size, c.put-start.ensures.next, c.put-entries.ensures.next));
-      after = line_after_lem row c.args.line.now _ (omega arith) (writes_then 0 _ opening _ _ _ _ c.put-start.ensures.next c.put-start.ensures.bytes (writes_as _ _ _ _ _ text c.put-entries.ensures.bytes));
-      fits = omega (arith, few, c.width.ensures, c.put-start.ensures.next, c.put-entries.ensures.short);
+      reply = line_reply_lem row c.args.line.now _ (omega arith) (omega (arith, size, c.put-start.ensures.next, c.put_entries.ensures.next));
+      after = line_after_lem row c.args.line.now _ (omega arith) (writes_then 0 _ opening _ _ _ _ c.put-start.ensures.next c.put-start.ensures.bytes (writes_as _ _ _ _ _ text c.put_entries.ensures.bytes));
+      fits = omega (arith, few, c.width.ensures, c.put-start.ensures.next, c.put_entries.ensures.short);
     }

@@ -12,10 +12,10 @@ returns c =
     let long = length-append source (codes " " ++ format) in
     record {
       reply = line_reply_lem (codes "from " ++ (source ++ (codes " " ++ format))) c.args.line.now _ (omega arith)
-          (omega (arith, long, c.put-all-start.ensures.next, c.put-source-next.ensures.next, c.put-format.ensures.next, c.put-format-2.ensures.next));
+          (omega (arith, long, c.put_all-start.ensures.next, c.put_source-next.ensures.next, c.put-format.ensures.next, c.put_format.ensures.next));
       after = line_after_lem (codes "from " ++ (source ++ (codes " " ++ format))) c.args.line.now _ (omega arith)
-          (writes_then 0 _ (codes "from ") _ _ _ _ c.put-all-start.ensures.next c.put-all-start.ensures.bytes
-          (writes_then _ _ source _ _ _ _ c.put-source-next.ensures.next c.put-source-next.ensures.bytes
-          (writes_then _ _ (codes " ") format _ _ _ c.put-format.ensures.next c.put-format.ensures.bytes c.put-format-2.ensures.bytes)));
-      fits = omega (arith, c.put-all-start.ensures.next, c.put-source-next.ensures.short, c.put-format.ensures.next, c.put-format-2.ensures.short);
+          (writes_then 0 _ (codes "from ") _ _ _ _ c.put_all-start.ensures.next c.put_all-start.ensures.bytes
+          (writes_then _ _ source _ _ _ _ c.put_source-next.ensures.next c.put_source-next.ensures.bytes
+          (writes_then _ _ (codes " ") format _ _ _ c.put-format.ensures.next c.put-format.ensures.bytes c.put_format.ensures.bytes)));
+      fits = omega (arith, c.put_all-start.ensures.next, c.put_source-next.ensures.short, c.put-format.ensures.next, c.put_format.ensures.short);
     }

@@ -15,9 +15,9 @@ returns c =
     let long = length-append separator (name ++ kind c.args.attribute.domain) in
     let short = length-append name (kind c.args.attribute.domain) in
     record {
-      next = omega (arith, long, short, size, c.put-all-start.ensures.next, c.put-name-named.ensures.next, c.put-colon.ensures.next, c.put.ensures.next);
-      short = omega (arith, c.requires.separator, c.put-all-start.ensures.next, c.put-name-named.ensures.short, c.put-colon.ensures.next, c.put.ensures.next);
-      bytes = writes_then _ _ separator _ _ _ _ c.put-all-start.ensures.next c.put-all-start.ensures.bytes
-          (writes_then _ _ name _ _ _ _ (c.put-name-named.ensures.next ∙ ap (λ t. c.put-all-start.result + length t) told) (writes_as _ _ _ _ _ told c.put-name-named.ensures.bytes)
-          (writes_then _ _ (58 ∷ []) (letter_of c.args.attribute.domain ∷ []) _ _ _ c.put-colon.ensures.next c.put-colon.ensures.bytes (writes_as _ _ _ _ _ (ap (λ b. b ∷ []) c.letter-byte.ensures) c.put.ensures.bytes)));
+      next = omega (arith, long, short, size, c.put_all-start.ensures.next, c.put_name-named.ensures.next, c.put-colon.ensures.next, c.put.ensures.next);
+      short = omega (arith, c.requires.separator, c.put_all-start.ensures.next, c.put_name-named.ensures.short, c.put-colon.ensures.next, c.put.ensures.next);
+      bytes = writes_then _ _ separator _ _ _ _ c.put_all-start.ensures.next c.put_all-start.ensures.bytes
+          (writes_then _ _ name _ _ _ _ (c.put_name-named.ensures.next ∙ ap (λ t. c.put_all-start.result + length t) told) (writes_as _ _ _ _ _ told c.put_name-named.ensures.bytes)
+          (writes_then _ _ (58 ∷ []) (letter_of c.args.attribute.domain ∷ []) _ _ _ c.put-colon.ensures.next c.put-colon.ensures.bytes (writes_as _ _ _ _ _ (ap (λ b. b ∷ []) c.letter_byte.ensures) c.put.ensures.bytes)));
     }

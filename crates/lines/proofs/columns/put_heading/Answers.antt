@@ -13,7 +13,7 @@ returns c =
     let few : length (held c.args.schema.now) ≤ columns = search rules in
     let same = ap length c.attributes.ensures in
     record {
-      next = omega (arith, size, c.put-start.ensures.next, c.put-columns.ensures.next);
-      short = omega (arith, few, same, c.put-start.ensures.next, c.put-columns.ensures.short);
-      bytes = writes_then _ _ opening _ _ _ _ c.put-start.ensures.next c.put-start.ensures.bytes (writes_as _ _ _ _ _ text c.put-columns.ensures.bytes);
+      next = omega (arith, size, c.put-start.ensures.next, c.put_columns.ensures.next);
+      short = omega (arith, few, same, c.put-start.ensures.next, c.put_columns.ensures.short);
+      bytes = writes_then _ _ opening _ _ _ _ c.put-start.ensures.next c.put-start.ensures.bytes (writes_as _ _ _ _ _ text c.put_columns.ensures.bytes);
     }

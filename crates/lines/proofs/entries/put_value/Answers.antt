@@ -11,7 +11,7 @@ returns-in-Integer c =
     let fits : SFits w64 c.in-Integer.number = search rules in
     let text = ap signed_decimal (to_z-of_z w64 c.in-Integer.number fits) ∙ ap (λ v. value_bytes (value_of c.args.sources v)) (sym c.in-Integer.is) in
     record {
-      next = c.put-integer.ensures.next ∙ ap (λ t. c.args.at + length t) text;
-      short = c.put-integer.ensures.short;
-      bytes = writes_as _ _ _ _ _ text c.put-integer.ensures.bytes;
+      next = c.put_integer.ensures.next ∙ ap (λ t. c.args.at + length t) text;
+      short = c.put_integer.ensures.short;
+      bytes = writes_as _ _ _ _ _ text c.put_integer.ensures.bytes;
     }

@@ -11,20 +11,20 @@ returns-then-n-lt10 t c = record {
   bytes = digit_writes _ _ _ _ c.if-n-lt10.true c.put.ensures.bytes;
 }
 
-pub put-natural-next-requires : goal.put-natural-next-requires
-put-natural-next-requires t c =
+pub put_natural-next-requires : goal.put_natural-next-requires
+put_natural-next-requires t c =
     let small : c.args.n < 2 ^ 64 = search rules in
     (omega arith, omega (arith, step_length c.args.n (omega arith) small))
 
 pub put-requires-2 : goal.put-requires-2
 put-requires-2 t c =
     let small : c.args.n < 2 ^ 64 = search rules in
-    omega (arith, step_length c.args.n (omega arith) small, c.put-natural-next.ensures.next, c.put-natural-next.auto.line)
+    omega (arith, step_length c.args.n (omega arith) small, c.put_natural-next.ensures.next, c.put_natural-next.auto.line)
 
 pub returns : goal.returns
 returns t c =
     let small : c.args.n < 2 ^ 64 = search rules in
     record {
-      next = omega (arith, c.put-2.ensures.next, c.put-natural-next.ensures.next, step_length c.args.n (omega arith) small);
-      bytes = step_writes _ _ c.args.n _ _ _ (omega arith) small c.put-natural-next.ensures.next c.put-natural-next.ensures.bytes c.put-2.ensures.bytes;
+      next = omega (arith, c.put-2.ensures.next, c.put_natural-next.ensures.next, step_length c.args.n (omega arith) small);
+      bytes = step_writes _ _ c.args.n _ _ _ (omega arith) small c.put_natural-next.ensures.next c.put_natural-next.ensures.bytes c.put-2.ensures.bytes;
     }

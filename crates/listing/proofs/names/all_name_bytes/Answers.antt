@@ -9,8 +9,8 @@ loop-b-preserved c =
     let next = at_drop_more all_name_bytes c.args.bytes.now c.loop-b.b-index 0 c.loop-b-test.true in
     grind (arith, nat_tests, next, c.loop-b.invariant)
 
-pub returns-then-not-is-name-byte : goal.returns-then-not-is-name-byte
-returns-then-not-is-name-byte c =
+pub returns-then-not-is_name_byte : goal.returns-then-not-is_name_byte
+returns-then-not-is_name_byte c =
     let next = at_drop_more all_name_bytes c.args.bytes.now c.loop-b.b-index 0 c.loop-b-test.true in
     grind (arith, nat_tests, next, c.loop-b.invariant)
 

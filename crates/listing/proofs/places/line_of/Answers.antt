@@ -18,5 +18,5 @@ returns c =
     let same = ap (λ n. line_feeds (take n c.args.text.now)) whole in
     omega (arith, past, same, c.loop-b.invariant.1)
 
-pub overflow-add-line : goal.overflow-add-line
-overflow-add-line c = let few = length-take-le (c.args.at - 0) c.args.text.now (omega (arith, c.requires.within)) in omega (arith, few, c.loop-b.invariant.0, c.requires.within, c.requires.short, c.loop-b-test.true)
+pub overflow_add-line : goal.overflow_add-line
+overflow_add-line c = let few = length-take-le (c.args.at - 0) c.args.text.now (omega (arith, c.requires.within)) in omega (arith, few, c.loop-b.invariant.0, c.requires.within, c.requires.short, c.loop-b-test.true)

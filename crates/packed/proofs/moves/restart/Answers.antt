@@ -4,12 +4,12 @@ use Rattle.packed.specs.Starts.{restarted}
 use Rattle.packed.proofs.Beginnings.{restart_fits, restart_set, restart_at, restart_all}
 use Rattle.packed.proofs.moves.restart.Goals as goal
 
-pub overflow-mul-at : goal.overflow-mul-at
-overflow-mul-at c =
+pub overflow_mul-at : goal.overflow_mul-at
+overflow_mul-at c =
     omega (arith, restart_fits c.args.tables.now c.loop-i.tables c.loop-i.i c.loop-i.at (record { first = 0; width = 0; count = 0 }) (omega arith) c.loop-i.invariant.0 c.loop-i.invariant.1.0)
 
-pub overflow-add-at : goal.overflow-add-at
-overflow-add-at c =
+pub overflow_add-at : goal.overflow_add-at
+overflow_add-at c =
     omega (arith, restart_fits c.args.tables.now c.loop-i.tables c.loop-i.i c.loop-i.at (record { first = 0; width = 0; count = 0 }) (omega arith) c.loop-i.invariant.0 c.loop-i.invariant.1.0)
 
 pub loop-i-preserved : goal.loop-i-preserved

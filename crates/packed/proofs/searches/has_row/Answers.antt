@@ -7,17 +7,17 @@ use Rattle.store.proofs.Rows.{same_row_decides}
 use Rattle.directory.proofs.Searching.{row_inside, has_step}
 use Rattle.packed.proofs.searches.has_row.Goals as goal
 
-pub overflow-add-at : goal.overflow-add-at
-overflow-add-at c = omega (arith, row_inside c.args.from c.loop-k.k c.args.count (length c.args.row.now) (length c.args.cells.now) (omega arith) (omega arith))
+pub overflow_add-at : goal.overflow_add-at
+overflow_add-at c = omega (arith, row_inside c.args.from c.loop-k.k c.args.count (length c.args.row.now) (length c.args.cells.now) (omega arith) (omega arith))
 
-pub overflow-add-at-in-loop-k : goal.overflow-add-at-in-loop-k
-overflow-add-at-in-loop-k c = omega (arith, row_inside c.args.from c.loop-k.k c.args.count (length c.args.row.now) (length c.args.cells.now) (omega arith) (omega arith))
+pub overflow_add-at-in-loop-k : goal.overflow_add-at-in-loop-k
+overflow_add-at-in-loop-k c = omega (arith, row_inside c.args.from c.loop-k.k c.args.count (length c.args.row.now) (length c.args.cells.now) (omega arith) (omega arith))
 
-pub offset-bounds-cells-at : goal.offset-bounds-cells-at
-offset-bounds-cells-at c = omega (arith, row_inside c.args.from c.loop-k.k c.args.count (length c.args.row.now) (length c.args.cells.now) (omega arith) (omega arith))
+pub offset_bounds-cells-at : goal.offset_bounds-cells-at
+offset_bounds-cells-at c = omega (arith, row_inside c.args.from c.loop-k.k c.args.count (length c.args.row.now) (length c.args.cells.now) (omega arith) (omega arith))
 
-pub slice-bounds-eq-end : goal.slice-bounds-eq-end
-slice-bounds-eq-end c = omega (arith, row_inside c.args.from c.loop-k.k c.args.count (length c.args.row.now) (length c.args.cells.now) (omega arith) (omega arith))
+pub slice_bounds-eq-end : goal.slice_bounds-eq-end
+slice_bounds-eq-end c = omega (arith, row_inside c.args.from c.loop-k.k c.args.count (length c.args.row.now) (length c.args.cells.now) (omega arith) (omega arith))
 
 pub returns-then-eq : goal.returns-then-eq
 returns-then-eq c =

@@ -14,31 +14,31 @@ use Rattle.phrases.proofs.Steps.{refused_at_lem, read_at, cases_err, answers_err
 use Rattle.tree.proofs.Grown.{below_then, beyond_then}
 use Rattle.phrases.proofs.lists.+lists.Goals as goal
 
-pub list-returns-in-err-first : goal.list-returns-in-err-first
-list-returns-in-err-first t c =
-    let y = err_from_is_err_and c.from-residual.result c.from-residual.ensures.1 in
+pub list-returns-in_err-first : goal.list-returns-in_err-first
+list-returns-in_err-first t c =
+    let y = err_from_is_err_and c.from_residual.result c.from_residual.ensures.1 in
     record {
       numbers = cases_err _ _ _ y.1;
-      answer = λ n text g. answers_err _ _ _ _ _ _ _ _ _ _ _ y.1 y.2 (list_first _ n _ _ _ (refusal _ _ _ _ _ _ _ _ _ (c.in-err-first.ensures.answer n text g)));
+      answer = λ n text g. answers_err _ _ _ _ _ _ _ _ _ _ _ y.1 y.2 (list_first _ n _ _ _ (refusal _ _ _ _ _ _ _ _ _ (c.in_err-first.ensures.answer n text g)));
     }
 
 pub list-returns : goal.list-returns
 list-returns t c =
-    let i = c.in-ok-first.ensures in
-    let m = c.more-items.ensures in
+    let i = c.in_ok-first.ensures in
+    let m = c.more_items.ensures in
     let a = c.args.parser.now in
     let b = c.item.new.parser in
-    let e = c.more-items.new.parser in
+    let e = c.more_items.new.parser in
     record {
-      numbers = numbers_later a b e c.more-items.result i.numbers.thrifty i.numbers.onward i.numbers.grown m.numbers;
+      numbers = numbers_later a b e c.more_items.result i.numbers.thrifty i.numbers.onward i.numbers.grown m.numbers;
       answer = λ n text g.
           let d = answered _ text _ _ a b c.args.nodes.now c.item.new.nodes _ (i.answer n text g) in
-          answers_later _ text _ _ _ a b e c.args.nodes.now c.item.new.nodes c.more-items.new.nodes c.more-items.result
+          answers_later _ text _ _ _ a b e c.args.nodes.now c.item.new.nodes c.more_items.new.nodes c.more_items.result
           (list_found n c.args.listed (tokens_ahead a) _ _ d.value) d.below d.beyond m.numbers (m.answer n text d.grounded _ _ d.holds);
     }
 
-pub more-items-returns-then-not-sees : goal.more-items-returns-then-not-sees
-more-items-returns-then-not-sees t c =
+pub more_items-returns-then-not-sees : goal.more_items-returns-then-not-sees
+more_items-returns-then-not-sees t c =
     let a = c.args.parser.now in
     record {
       numbers = record { thrifty = omega arith; onward = omega arith; grown = omega arith };
@@ -52,102 +52,102 @@ more-items-returns-then-not-sees t c =
       });
     }
 
-pub more-items-returns-in-err-advance : goal.more-items-returns-in-err-advance
-more-items-returns-in-err-advance t c =
-    let y = err_from_is_err_and c.from-residual.result c.from-residual.ensures.1 in
+pub more_items-returns-in_err-advance : goal.more_items-returns-in_err-advance
+more_items-returns-in_err-advance t c =
+    let y = err_from_is_err_and c.from_residual.result c.from_residual.ensures.1 in
     let a = c.args.parser.now in
     record {
       numbers = cases_err _ _ _ y.1;
       answer = λ n text g from u h. answers_err _ text _ _ _ _ _ _ _ _ _ y.1 y.2
-          (more_halts (end_of text) n c.args.listed u (spoken a.ahead.token) (ahead_at a) (behind a) _ (sym c.sees.ensures ∙ c.if-not-sees.false) (stepped_broken text a c.advance.new.self _ (c.in-err-advance.ensures.step text g)));
+          (more_halts (end_of text) n c.args.listed u (spoken a.ahead.token) (ahead_at a) (behind a) _ (sym c.sees.ensures ∙ c.if-not-sees.false) (stepped_broken text a c.advance.new.self _ (c.in_err-advance.ensures.step text g)));
     }
 
-pub more-items-returns-in-err-next : goal.more-items-returns-in-err-next
-more-items-returns-in-err-next t c =
-    let y = err_from_is_err_and c.from-residual-in-err-next.result c.from-residual-in-err-next.ensures.1 in
+pub more_items-returns-in_err-next : goal.more_items-returns-in_err-next
+more_items-returns-in_err-next t c =
+    let y = err_from_is_err_and c.from_residual-in_err-next.result c.from_residual-in_err-next.ensures.1 in
     let a = c.args.parser.now in
     let b = c.advance.new.self in
     record {
       numbers = cases_err _ _ _ y.1;
       answer = λ n text g from u h.
-          let k = stepped_ok text a b _ (c.in-ok-advance.ensures.step text g) in
+          let k = stepped_ok text a b _ (c.in_ok-advance.ensures.step text g) in
           answers_err _ text _ _ _ _ _ _ _ _ _ y.1 y.2
           (more_first (end_of text) n c.args.listed u (spoken a.ahead.token) (ahead_at a) (behind a) _ (sym c.sees.ensures ∙ c.if-not-sees.false)
-          (refused_at_lem (end_of text) (item_reader n c.args.listed) _ _ _ k.1 (refusal _ text _ _ b c.item.new.parser c.args.nodes.now c.item.new.nodes _ (c.in-err-next.ensures.answer n text k.0))));
+          (refused_at_lem (end_of text) (item_reader n c.args.listed) _ _ _ k.1 (refusal _ text _ _ b c.item.new.parser c.args.nodes.now c.item.new.nodes _ (c.in_err-next.ensures.answer n text k.0))));
     }
 
-pub more-items-returns : goal.more-items-returns
-more-items-returns t c =
+pub more_items-returns : goal.more_items-returns
+more_items-returns t c =
     let a = c.args.parser.now in
     let b = c.advance.new.self in
     let d = c.item.new.parser in
-    let z = c.more-items.new.parser in
-    let s = c.in-ok-advance.ensures in
-    let i = c.in-ok-next.ensures in
-    let m = c.more-items.ensures in
+    let z = c.more_items.new.parser in
+    let s = c.in_ok-advance.ensures in
+    let i = c.in_ok-next.ensures in
+    let m = c.more_items.ensures in
     let pays = code_pays (sign Comma) (spoken a.ahead.token) (sym c.sees.ensures ∙ c.if-not-sees.false) in
     record {
-      numbers = numbers_on_later a d z c.more-items.result (omega (arith, s.count, s.paid, i.numbers.thrifty)) (omega (arith, s.paid, i.numbers.onward)) (omega (arith, s.count, i.numbers.grown)) m.numbers;
+      numbers = numbers_on_later a d z c.more_items.result (omega (arith, s.count, s.paid, i.numbers.thrifty)) (omega (arith, s.paid, i.numbers.onward)) (omega (arith, s.count, i.numbers.grown)) m.numbers;
       answer = λ n text g from u h.
           let k = stepped_ok text a b _ (s.step text g) in
           let v = answered _ text _ _ b d c.args.nodes.now c.item.new.nodes _ (i.answer n text k.0) in
           let low = held_some c.args.listed text c.args.nodes.now from a.count c.args.first u h in
-          answers_later _ text _ _ from a d z c.args.nodes.now c.link.new.nodes c.more-items.new.nodes c.more-items.result
+          answers_later _ text _ _ from a d z c.args.nodes.now c.link.new.nodes c.more_items.new.nodes c.more_items.result
           (more_found n c.args.listed u (spoken a.ahead.token) (ahead_at a) (behind a) v.part _ (sym c.sees.ensures ∙ c.if-not-sees.false) (read_at (item_reader n c.args.listed) _ _ _ _ k.1 v.value))
           (below_then from from c.args.nodes.now c.item.new.nodes c.link.new.nodes (omega arith) (λ j l. v.below j (omega (arith, l, low, s.count)))
-          (link_below from (a.count - 1) c.in-ok-next.next c.item.new.nodes c.link.new.nodes (omega (arith, low)) c.link.ensures)) (beyond_then d.count d.count c.args.nodes.now c.item.new.nodes c.link.new.nodes (omega arith) v.beyond
-          (link_beyond d.count (a.count - 1) c.in-ok-next.next c.item.new.nodes c.link.new.nodes (omega (arith, low, s.count, i.numbers.grown)) c.link.ensures)) m.numbers
+          (link_below from (a.count - 1) c.in_ok-next.next c.item.new.nodes c.link.new.nodes (omega (arith, low)) c.link.ensures)) (beyond_then d.count d.count c.args.nodes.now c.item.new.nodes c.link.new.nodes (omega arith) v.beyond
+          (link_beyond d.count (a.count - 1) c.in_ok-next.next c.item.new.nodes c.link.new.nodes (omega (arith, low, s.count, i.numbers.grown)) c.link.ensures)) m.numbers
           (m.answer n text v.grounded from (combine commas (ahead_at a) u v.part)
-          (held_link c.args.listed text c.args.nodes.now c.item.new.nodes c.link.new.nodes from a.count d.count c.args.first c.in-ok-next.next (ahead_at a) u v.part h
-          (subst (λ m. Held (level_of c.args.listed) text c.item.new.nodes m d.count c.in-ok-next.next v.part) s.count v.holds)
+          (held_link c.args.listed text c.args.nodes.now c.item.new.nodes c.link.new.nodes from a.count d.count c.args.first c.in_ok-next.next (ahead_at a) u v.part h
+          (subst (λ m. Held (level_of c.args.listed) text c.item.new.nodes m d.count c.in_ok-next.next v.part) s.count v.holds)
           (λ j l. v.below j (omega (arith, l, s.count))) (omega (arith, c.requires.begun, c.requires.room, c.requires.fits, c.item.auto.nodes)) c.link.ensures));
     }
 
-pub tuple-const-returns-in-err-expect : goal.tuple-const-returns-in-err-expect
-tuple-const-returns-in-err-expect t c =
-    let y = err_from_is_err_and c.from-residual.result c.from-residual.ensures.1 in
+pub tuple_const-returns-in_err-expect : goal.tuple_const-returns-in_err-expect
+tuple_const-returns-in_err-expect t c =
+    let y = err_from_is_err_and c.from_residual.result c.from_residual.ensures.1 in
     record {
       numbers = cases_err _ _ _ y.1;
-      answer = λ n text g. answers_err _ text _ _ _ _ _ _ _ _ _ y.1 y.2 (tuple_first (end_of text) n _ _ (expected_broken text _ c.args.parser.now c.expect.new.self _ (c.in-err-expect.ensures.step text g)));
+      answer = λ n text g. answers_err _ text _ _ _ _ _ _ _ _ _ y.1 y.2 (tuple_first (end_of text) n _ _ (expected_broken text _ c.args.parser.now c.expect.new.self _ (c.in_err-expect.ensures.step text g)));
     }
 
-pub tuple-const-returns-in-err-first : goal.tuple-const-returns-in-err-first
-tuple-const-returns-in-err-first t c =
-    let y = err_from_is_err_and c.from-residual-in-err-first.result c.from-residual-in-err-first.ensures.1 in
+pub tuple_const-returns-in_err-first : goal.tuple_const-returns-in_err-first
+tuple_const-returns-in_err-first t c =
+    let y = err_from_is_err_and c.from_residual-in_err-first.result c.from_residual-in_err-first.ensures.1 in
     let a = c.args.parser.now in
     let b = c.expect.new.self in
     record {
       numbers = cases_err _ _ _ y.1;
       answer = λ n text g.
-          let k = expected_ok text _ a b _ (c.in-ok-expect.ensures.step text g) in
+          let k = expected_ok text _ a b _ (c.in_ok-expect.ensures.step text g) in
           answers_err _ text _ _ _ _ _ _ _ _ _ y.1 y.2
-          (tuple_second (end_of text) n _ _ _ _ k.1 (refusal _ text _ _ b c.list.new.parser c.args.nodes.now c.list.new.nodes _ (c.in-err-first.ensures.answer n text k.0)));
+          (tuple_second (end_of text) n _ _ _ _ k.1 (refusal _ text _ _ b c.list.new.parser c.args.nodes.now c.list.new.nodes _ (c.in_err-first.ensures.answer n text k.0)));
     }
 
-pub tuple-const-returns-in-err-expect-2 : goal.tuple-const-returns-in-err-expect-2
-tuple-const-returns-in-err-expect-2 t c =
-    let y = err_from_is_err_and c.from-residual-in-err-expect-2.result c.from-residual-in-err-expect-2.ensures.1 in
+pub tuple_const-returns-in_err-expect-2 : goal.tuple_const-returns-in_err-expect-2
+tuple_const-returns-in_err-expect-2 t c =
+    let y = err_from_is_err_and c.from_residual-in_err-expect-2.result c.from_residual-in_err-expect-2.ensures.1 in
     let a = c.args.parser.now in
     let b = c.expect.new.self in
     let d = c.list.new.parser in
     record {
       numbers = cases_err _ _ _ y.1;
       answer = λ n text g.
-          let k = expected_ok text _ a b _ (c.in-ok-expect.ensures.step text g) in
-          let v = answered _ text _ _ b d c.args.nodes.now c.list.new.nodes _ (c.in-ok-first.ensures.answer n text k.0) in
+          let k = expected_ok text _ a b _ (c.in_ok-expect.ensures.step text g) in
+          let v = answered _ text _ _ b d c.args.nodes.now c.list.new.nodes _ (c.in_ok-first.ensures.answer n text k.0) in
           answers_err _ text _ _ _ _ _ _ _ _ _ y.1 y.2
-          (tuple_third (end_of text) n _ _ _ _ _ _ k.1 v.value (expected_broken text _ d c.expect-2.new.self _ (c.in-err-expect-2.ensures.step text v.grounded)));
+          (tuple_third (end_of text) n _ _ _ _ _ _ k.1 v.value (expected_broken text _ d c.expect-2.new.self _ (c.in_err-expect-2.ensures.step text v.grounded)));
     }
 
-pub tuple-const-returns : goal.tuple-const-returns
-tuple-const-returns t c =
+pub tuple_const-returns : goal.tuple_const-returns
+tuple_const-returns t c =
     let a = c.args.parser.now in
     let b = c.expect.new.self in
     let d = c.list.new.parser in
     let e = c.expect-2.new.self in
-    let s = c.in-ok-expect.ensures in
-    let i = c.in-ok-first.ensures in
-    let z = c.in-ok-expect-2.ensures in
+    let s = c.in_ok-expect.ensures in
+    let i = c.in_ok-first.ensures in
+    let z = c.in_ok-expect-2.ensures in
     record {
       numbers = numbers_put a e c.put.new.self c.put.ensures.state (omega (arith, s.count, s.paid, i.numbers.thrifty, z.count, z.paid)) (omega (arith, s.paid, i.numbers.onward, z.paid)) (omega (arith, s.count, i.numbers.grown, z.count));
       answer = λ n text g.
@@ -159,6 +159,6 @@ tuple-const-returns t c =
           (λ j l. v.below j (omega (arith, l, s.count))) (λ j l. v.beyond j (omega (arith, l, z.count)))
           (omega (arith, s.count, i.numbers.grown, z.count)) (omega (arith, c.requires.room, c.requires.fits, s.count, s.paid, i.numbers.thrifty, z.count, z.paid, c.list.auto.nodes))
           (λ below says next. tuple_held text c.list.new.nodes c.put.new.nodes a.count e.count _ v.part (ahead_at a)
-          (subst (λ m. Held constant_level text c.list.new.nodes m e.count c.in-ok-first.first v.part) s.count
-          (subst (λ m. Held constant_level text c.list.new.nodes b.count m c.in-ok-first.first v.part) (sym z.count) v.holds)) below says next);
+          (subst (λ m. Held constant_level text c.list.new.nodes m e.count c.in_ok-first.first v.part) s.count
+          (subst (λ m. Held constant_level text c.list.new.nodes b.count m c.in_ok-first.first v.part) (sym z.count) v.holds)) below says next);
     }

@@ -8,8 +8,8 @@ decreases-item l = 4 * worth l.parser.now + 2
 abbrev pub decreases-list : goal.decreases-list
 decreases-list l = 4 * worth l.parser.now + 3
 
-abbrev pub decreases-more-items : goal.decreases-more-items
-decreases-more-items l = 4 * worth l.parser.now
+abbrev pub decreases-more_items : goal.decreases-more_items
+decreases-more_items l = 4 * worth l.parser.now
 
-abbrev pub decreases-tuple-const : goal.decreases-tuple-const
-decreases-tuple-const l = 4 * worth l.parser.now + 1
+abbrev pub decreases-tuple_const : goal.decreases-tuple_const
+decreases-tuple_const l = 4 * worth l.parser.now + 1

@@ -7,28 +7,28 @@ use Rattle.phrases.proofs.Steps.{cases_err, answers_err}
 use Rattle.tree.proofs.Grown.{below_then, beyond_then}
 use Rattle.phrases.proofs.lists.attr_decl.Goals as goal
 
-pub returns-in-err-domain : goal.returns-in-err-domain
-returns-in-err-domain c =
-    let y = err_from_is_err_and c.from-residual.result c.from-residual.ensures.1 in
+pub returns-in_err-domain : goal.returns-in_err-domain
+returns-in_err-domain c =
+    let y = err_from_is_err_and c.from_residual.result c.from_residual.ensures.1 in
     record {
       numbers = cases_err _ _ _ y.1;
-      answer = λ text g. answers_err _ _ _ _ _ _ _ _ _ _ _ y.1 y.2 (attribute_first _ _ _ (refusal _ _ _ _ _ _ _ _ _ (c.in-err-domain.ensures.answer text g)));
+      answer = λ text g. answers_err _ _ _ _ _ _ _ _ _ _ _ y.1 y.2 (attribute_first _ _ _ (refusal _ _ _ _ _ _ _ _ _ (c.in_err-domain.ensures.answer text g)));
     }
 
-pub returns-in-err-name : goal.returns-in-err-name
-returns-in-err-name c =
-    let y = err_from_is_err_and c.from-residual-in-err-name.result c.from-residual-in-err-name.ensures.1 in
+pub returns-in_err-name : goal.returns-in_err-name
+returns-in_err-name c =
+    let y = err_from_is_err_and c.from_residual-in_err-name.result c.from_residual-in_err-name.ensures.1 in
     record {
       numbers = cases_err _ _ _ y.1;
       answer = λ text g.
-          let d = answered _ _ _ _ _ _ _ _ _ (c.in-ok-domain.ensures.answer text g) in
-          answers_err _ _ _ _ _ _ _ _ _ _ _ y.1 y.2 (attribute_second _ _ _ _ _ d.value (refusal _ _ _ _ _ _ _ _ _ (c.in-err-name.ensures.answer text d.grounded)));
+          let d = answered _ _ _ _ _ _ _ _ _ (c.in_ok-domain.ensures.answer text g) in
+          answers_err _ _ _ _ _ _ _ _ _ _ _ y.1 y.2 (attribute_second _ _ _ _ _ d.value (refusal _ _ _ _ _ _ _ _ _ (c.in_err-name.ensures.answer text d.grounded)));
     }
 
 pub returns : goal.returns
 returns c =
-    let n = c.in-ok-domain.ensures in
-    let m = c.in-ok-name.ensures in
+    let n = c.in_ok-domain.ensures in
+    let m = c.in_ok-name.ensures in
     record {
       numbers = numbers_put _ _ _ c.put.ensures.state (omega (arith, n.spare, m.numbers.thrifty)) (omega (arith, n.numbers.onward, m.numbers.onward)) (omega (arith, n.numbers.grown, m.numbers.grown));
       answer = λ text g.

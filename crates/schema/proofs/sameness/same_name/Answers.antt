@@ -1,10 +1,9 @@
-use Rattle.std.proofs.Common.{rules}
-use Rattle.std.proofs.lemmas.Slice.Eq.{slice_eq-Decides, bytes_eq-Decides}
-use Rattle.std.proofs.lemmas.Bool.Decides.{same_from_decides, Decides-eqb}
+use Rattle.std.proofs.Common.{◌≡◌, rules}
+use Rattle.std.specs.Str.{bytes_eq}
 use Rattle.schema.proofs.Sames.{name_decided}
 use Rattle.schema.proofs.sameness.same_name.Goals as goal
 
 pub returns : goal.returns
 returns c =
-    let value = same_from_decides _ _ (slice_eq-Decides Decides-eqb _ _ _ c.eq.ensures) (bytes_eq-Decides _ _) in
-    record { value = value; same = name_decided _ _ value }
+    let value : c.eq.result ≡ bytes_eq c.args.left.now c.args.right.now = search rules in
+    record { value = value; same = name_decided c.args.left.now c.args.right.now value }

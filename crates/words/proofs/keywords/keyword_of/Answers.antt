@@ -6,12 +6,12 @@ pub returns-in-Some : goal.returns-in-Some
 unfolding keyword_of
 returns-in-Some c = let a = c.in-Some.ensures in rw (← a)
 
-pub returns-in-Some-operator-word : goal.returns-in-Some-operator-word
+pub returns-in-Some-operator_word : goal.returns-in-Some-operator_word
 unfolding keyword_of
-returns-in-Some-operator-word c =
-    let a = c.in-default.ensures in let b = c.in-Some-operator-word.ensures in rw (← a, ← b)
+returns-in-Some-operator_word c =
+    let a = c.in_default.ensures in let b = c.in-Some-operator_word.ensures in rw (← a, ← b)
 
 pub returns : goal.returns
 unfolding keyword_of
 returns c =
-    let a = c.in-default.ensures in let b = c.in-default-operator-word.ensures in rw (← a, ← b) c.value-word.ensures
+    let a = c.in_default.ensures in let b = c.in_default-operator_word.ensures in rw (← a, ← b) c.value_word.ensures

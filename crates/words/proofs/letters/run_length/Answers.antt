@@ -8,7 +8,7 @@ loop-rest-preserved c =
     let s = c.loop-rest.rest.now in
     (grind (arith, nat_tests, cut_none s, cut_one s), grind (arith, nat_tests, cut_none s, cut_one s))
 
-pub returns-in-default : goal.returns-in-default
-returns-in-default c =
+pub returns-in_default : goal.returns-in_default
+returns-in_default c =
     let s = c.loop-rest.rest.now in
     record { within = grind (arith, nat_tests, cut_none s, cut_one s); value = grind (arith, nat_tests, cut_none s, cut_one s) }

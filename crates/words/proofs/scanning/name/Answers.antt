@@ -5,9 +5,9 @@ use Rattle.words.proofs.scanning.name.Goals as goal
 
 pub returns : goal.returns
 returns c =
-    let said = c.word-or-name-token.ensures in
+    let said = c.word_or_name-token.ensures in
     let on = c.step.ensures in
     record {
       onward = (on.small, grind (arith, nat_tests, said, on.len));
-      value = name_is _ _ _ _ c.run-length-length.ensures.value (omega arith) said on.value;
+      value = name_is _ _ _ _ c.run_length-length.ensures.value (omega arith) said on.value;
     }

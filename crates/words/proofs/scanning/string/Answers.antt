@@ -5,4 +5,4 @@ use Rattle.words.proofs.scanning.string.Goals as goal
 
 pub returns-then-length-inside : goal.returns-then-length-inside
 returns-then-length-inside c =
-    record { onward = tt; value = grind (arith, nat_tests, get_or_past c.args.inside.now c.run-length-length.result 0) }
+    record { onward = tt; value = grind (arith, nat_tests, get_or_past c.args.inside.now c.run_length-length.result 0) }

@@ -11,27 +11,27 @@ use Rattle.chained.proofs.store_impl.ChainedRowStore.drop_last.Goals as goal
 pub join-self-requires : goal.join-self-requires
 join-self-requires c =
     let s = c.args.self.now in
-    chain_low s.capacity c.cells-gone.result c.in-Some.last c.as-mut-slice.result.now (links s) c.as-mut-slice.ensures.value s.linked c.cells-gone.ensures (last_inside (kept s) _ c.in-Some.last c.in-Some.ensures.items)
+    chain_low s.capacity c.cells-gone.result c.in-Some.last c.as_mut_slice.result.now (links s) c.as_mut_slice.ensures.value s.linked c.cells-gone.ensures (last_inside (kept s) _ c.in-Some.last c.in-Some.ensures.items)
 
-pub overflow-cast-self : goal.overflow-cast-self
-overflow-cast-self c =
+pub overflow_cast-self : goal.overflow_cast-self
+overflow_cast-self c =
     let s = c.args.self.now in
     omega (arith, c.cells-gone.ensures, last_size (kept s) _ c.in-Some.last c.in-Some.ensures.items, s.within, s.small)
 
-pub overflow-sub-self : goal.overflow-sub-self
-overflow-sub-self c =
+pub overflow_sub-self : goal.overflow_sub-self
+overflow_sub-self c =
     let s = c.args.self.now in
     omega (arith, c.cells-gone.ensures, last_size (kept s) _ c.in-Some.last c.in-Some.ensures.items)
 
-pub invariant-of-self-2 : goal.invariant-of-self-2
-invariant-of-self-2 c =
+pub invariant_of-self-2 : goal.invariant_of-self-2
+invariant_of-self-2 c =
     let s = c.args.self.now in
-    parts (kept_drop (kept s) _ c.in-Some.last c.in-Some.ensures.items _ _ _ (linked_as s.links.len c.join-self.new.links c.as-mut-slice.result.now (links s) c.cells-gone.result c.in-Some.last s.free c.join-self.auto.links c.as-mut-slice.ensures.value (omega arith) c.join-self.ensures.after c.cells-gone.ensures) (c.join-self.ensures.head ∙ ap (λ n. head_of n c.in-Some.last.first s.free) c.cells-gone.ensures) (ap (λ n. s.used - n) c.cells-gone.ensures)) (omega (arith, s.places, c.pop.ensures.capacity))
+    parts (kept_drop (kept s) _ c.in-Some.last c.in-Some.ensures.items _ _ _ (linked_as s.links.len c.join-self.new.links c.as_mut_slice.result.now (links s) c.cells-gone.result c.in-Some.last s.free c.join-self.auto.links c.as_mut_slice.ensures.value (omega arith) c.join-self.ensures.after c.cells-gone.ensures) (c.join-self.ensures.head ∙ ap (λ n. head_of n c.in-Some.last.first s.free) c.cells-gone.ensures) (ap (λ n. s.used - n) c.cells-gone.ensures)) (omega (arith, s.places, c.pop.ensures.capacity))
 
 pub returns : goal.returns
 returns c =
     let s = c.args.self.now in
     let is = c.in-Some.ensures.items in
     let r = drop_accepted (meaning s) (omega (arith, length_decode (entries s) (run s), ap length is, length-append (vec_items c.pop.new.self) (c.in-Some.last ∷ []))) in
-    let cut = run_drop (kept s) _ c.in-Some.last c.in-Some.ensures.items _ _ _ (linked_as s.links.len c.join-self.new.links c.as-mut-slice.result.now (links s) c.cells-gone.result c.in-Some.last s.free c.join-self.auto.links c.as-mut-slice.ensures.value (omega arith) c.join-self.ensures.after c.cells-gone.ensures) (c.join-self.ensures.head ∙ ap (λ n. head_of n c.in-Some.last.first s.free) c.cells-gone.ensures) (ap (λ n. s.used - n) c.cells-gone.ensures) in
+    let cut = run_drop (kept s) _ c.in-Some.last c.in-Some.ensures.items _ _ _ (linked_as s.links.len c.join-self.new.links c.as_mut_slice.result.now (links s) c.cells-gone.result c.in-Some.last s.free c.join-self.auto.links c.as_mut_slice.ensures.value (omega arith) c.join-self.ensures.after c.cells-gone.ensures) (c.join-self.ensures.head ∙ ap (λ n. head_of n c.in-Some.last.first s.free) c.cells-gone.ensures) (ap (λ n. s.used - n) c.cells-gone.ensures) in
     record { reply = r.0; after = ap (λ ts. record { capacity = s.capacity; tables = ts }) (decode_drop (entries s) (vec_items c.pop.new.self) c.in-Some.last (run s) _ is (held_kept (kept s)).full cut).0 ∙ r.1 }

@@ -19,14 +19,14 @@ returns-then-wide-lt1 c =
     let r = open_outside (meaning s) c.args.width (omega (arith, length_decode (entries s) (run s))) (⊎_elim inl (λ p. inr (omega arith)) c.then-wide-lt1.either) in
     record { reply = ap Err c.refuse-then-wide-lt1.ensures ∙ r.0; after = r.1 }
 
-pub invariant-of-self : goal.invariant-of-self
-invariant-of-self c =
+pub invariant_of-self : goal.invariant_of-self
+invariant_of-self c =
     let s = c.args.self.now in
-    parts (kept_open c.args.width _ (kept s) (omega arith) (omega arith) (omega arith) c.push-reserved.ensures.items) (omega (arith, c.push-reserved.ensures.capacity))
+    parts (kept_open c.args.width _ (kept s) (omega arith) (omega arith) (omega arith) c.push_reserved.ensures.items) (omega (arith, c.push_reserved.ensures.capacity))
 
 pub returns : goal.returns
 returns c =
     let s = c.args.self.now in
     let r = open_accepted (meaning s) c.args.width (omega (arith, length_decode (entries s) (run s))) (omega arith) (omega arith) in
-    let grew = c.push-reserved.ensures.items in
+    let grew = c.push_reserved.ensures.items in
     record { reply = r.0; after = ap₂ (laid s.capacity) grew (run_open (entries s) _ (cells s) (links s) c.args.width grew) ∙ ap (λ ts. record { capacity = s.capacity; tables = ts }) (decode_open (entries s) (run s) 0 c.args.width) ∙ r.1 }

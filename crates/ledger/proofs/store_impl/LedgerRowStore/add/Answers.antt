@@ -15,26 +15,26 @@ returns-then-count-eq0 c =
     let r = add_absent (meaning s) c.args.row.now (omega (arith, length_numbered 0 (widths s) (lines s))) in
     record { reply = ap Err c.refuse.ensures ∙ r.0; after = r.1 }
 
-pub slice-bounds-has-row-end : goal.slice-bounds-has-row-end
-slice-bounds-has-row-end c =
+pub slice_bounds-has_row-end : goal.slice_bounds-has_row-end
+slice_bounds-has_row-end c =
     let s = c.args.self.now in
     let wide = get_or_read (widths s) _ _ (omega arith) c.index-width.ensures 0 in
     omega (arith, wide, (table_good (widths s) (lines s) (c.len-count.result - 1) (omega arith) s.sound).1)
 
-pub has-row-requires : goal.has-row-requires
-has-row-requires c =
+pub has_row-requires : goal.has_row-requires
+has_row-requires c =
     let s = c.args.self.now in
     let wide = get_or_read (widths s) _ _ (omega arith) c.index-width.ensures 0 in
     let long = (table_good (widths s) (lines s) (c.len-count.result - 1) (omega arith) s.sound).1 in
     omega (arith, wide, long, length-take-le (c.index-width.result.now - 0) c.args.row.now (omega (arith, wide, long, c.told-row)))
 
-pub returns-then-has-row : goal.returns-then-has-row
-returns-then-has-row c =
+pub returns-then-has_row : goal.returns-then-has_row
+returns-then-has_row c =
     let s = c.args.self.now in
     let wide = get_or_read (widths s) _ _ (omega arith) c.index-width.ensures 0 in
     let long = (table_good (widths s) (lines s) (c.len-count.result - 1) (omega arith) s.sound).1 in
-    let found = add_found s.capacity (widths s) (lines s) (c.len-count.result - 1) c.index-width.result.now c.args.row.now (omega arith) (omega arith) wide c.deref.result.now c.has-row.result (omega (arith, wide, long, c.told-row)) c.deref.ensures.value c.has-row.ensures in
-    let r = add_repeat (meaning s) c.args.row.now (omega (arith, length_numbered 0 (widths s) (lines s))) (found ∙ c.if-has-row.true) in
+    let found = add_found s.capacity (widths s) (lines s) (c.len-count.result - 1) c.index-width.result.now c.args.row.now (omega arith) (omega arith) wide c.deref.result.now c.has_row.result (omega (arith, wide, long, c.told-row)) c.deref.ensures.value c.has_row.ensures in
+    let r = add_repeat (meaning s) c.args.row.now (omega (arith, length_numbered 0 (widths s) (lines s))) (found ∙ c.if-has_row.true) in
     record { reply = r.0; after = r.1 }
 
 pub returns-then-width-self : goal.returns-then-width-self
@@ -42,33 +42,33 @@ returns-then-width-self c =
     let s = c.args.self.now in
     let wide = get_or_read (widths s) _ _ (omega arith) c.index-width.ensures 0 in
     let long = (table_good (widths s) (lines s) (c.len-count.result - 1) (omega arith) s.sound).1 in
-    let found = add_found s.capacity (widths s) (lines s) (c.len-count.result - 1) c.index-width.result.now c.args.row.now (omega arith) (omega arith) wide c.deref.result.now c.has-row.result (omega (arith, wide, long, c.told-row)) c.deref.ensures.value c.has-row.ensures in
-    let r = add_full (meaning s) c.args.row.now (omega (arith, length_numbered 0 (widths s) (lines s))) (found ∙ c.if-has-row.false) (omega (arith, s.counted, last_wide s.capacity (widths s) (lines s) (c.len-count.result - 1) c.index-width.result.now c.args.row.now (omega arith) (omega arith) wide)) in
+    let found = add_found s.capacity (widths s) (lines s) (c.len-count.result - 1) c.index-width.result.now c.args.row.now (omega arith) (omega arith) wide c.deref.result.now c.has_row.result (omega (arith, wide, long, c.told-row)) c.deref.ensures.value c.has_row.ensures in
+    let r = add_full (meaning s) c.args.row.now (omega (arith, length_numbered 0 (widths s) (lines s))) (found ∙ c.if-has_row.false) (omega (arith, s.counted, last_wide s.capacity (widths s) (lines s) (c.len-count.result - 1) c.index-width.result.now c.args.row.now (omega arith) (omega arith) wide)) in
     record { reply = ap Err c.refuse-then-width-self.ensures ∙ r.0; after = r.1 }
 
-pub push-reserved-requires : goal.push-reserved-requires
-push-reserved-requires c =
+pub push_reserved-requires : goal.push_reserved-requires
+push_reserved-requires c =
     let s = c.args.self.now in
     let wide = get_or_read (widths s) _ _ (omega arith) c.index-width.ensures 0 in
     omega (arith, wide, (table_good (widths s) (lines s) (c.len-count.result - 1) (omega arith) s.sound).0, lines_used (widths s) (lines s) s.owned s.sound, s.counted, s.within, s.room)
 
-pub invariant-of-self : goal.invariant-of-self
-invariant-of-self c =
+pub invariant_of-self : goal.invariant_of-self
+invariant_of-self c =
     let s = c.args.self.now in
     let wide = get_or_read (widths s) _ _ (omega arith) c.index-width.ensures 0 in
     let long = (table_good (widths s) (lines s) (c.len-count.result - 1) (omega arith) s.sound).1 in
-    let found = add_found s.capacity (widths s) (lines s) (c.len-count.result - 1) c.index-width.result.now c.args.row.now (omega arith) (omega arith) wide c.deref.result.now c.has-row.result (omega (arith, wide, long, c.told-row)) c.deref.ensures.value c.has-row.ensures in
+    let found = add_found s.capacity (widths s) (lines s) (c.len-count.result - 1) c.index-width.result.now c.args.row.now (omega arith) (omega arith) wide c.deref.result.now c.has_row.result (omega (arith, wide, long, c.told-row)) c.deref.ensures.value c.has_row.ensures in
     let last = last_wide s.capacity (widths s) (lines s) (c.len-count.result - 1) c.index-width.result.now c.args.row.now (omega arith) (omega arith) wide in
-    let grew = c.push-reserved.ensures.items in
-    let r = add_new (meaning s) c.args.row.now (omega (arith, length_numbered 0 (widths s) (lines s))) (found ∙ c.if-has-row.false) (omega (arith, s.counted, last)) in
-    parts (widths s) _ (sound_as _ _ (add_done s.capacity (widths s) (lines s) (c.len-count.result - 1) c.index-width.result.now c.args.row.now (omega arith) (omega arith) wide _ grew ∙ r.1) (sound_add (meaning s) c.args.row.now (sound s) c.told-row)) (ap (λ n. n + c.index-width.result.now) s.counted ∙ sym (used_add s.capacity (widths s) (lines s) (c.len-count.result - 1) c.index-width.result.now c.args.row.now (omega arith) (omega arith) wide _ grew)) (ap (below (length (widths s))) grew ∙ below_append (length (widths s)) (length (widths s)) (lines s) _ (omega arith) s.owned (omega arith)) (omega (arith, s.room, c.push-reserved.ensures.capacity)) s.places
+    let grew = c.push_reserved.ensures.items in
+    let r = add_new (meaning s) c.args.row.now (omega (arith, length_numbered 0 (widths s) (lines s))) (found ∙ c.if-has_row.false) (omega (arith, s.counted, last)) in
+    parts (widths s) _ (sound_as _ _ (add_done s.capacity (widths s) (lines s) (c.len-count.result - 1) c.index-width.result.now c.args.row.now (omega arith) (omega arith) wide _ grew ∙ r.1) (sound_add (meaning s) c.args.row.now (sound s) c.told-row)) (ap (λ n. n + c.index-width.result.now) s.counted ∙ sym (used_add s.capacity (widths s) (lines s) (c.len-count.result - 1) c.index-width.result.now c.args.row.now (omega arith) (omega arith) wide _ grew)) (ap (below (length (widths s))) grew ∙ below_append (length (widths s)) (length (widths s)) (lines s) _ (omega arith) s.owned (omega arith)) (omega (arith, s.room, c.push_reserved.ensures.capacity)) s.places
 
 pub returns : goal.returns
 returns c =
     let s = c.args.self.now in
     let wide = get_or_read (widths s) _ _ (omega arith) c.index-width.ensures 0 in
     let long = (table_good (widths s) (lines s) (c.len-count.result - 1) (omega arith) s.sound).1 in
-    let found = add_found s.capacity (widths s) (lines s) (c.len-count.result - 1) c.index-width.result.now c.args.row.now (omega arith) (omega arith) wide c.deref.result.now c.has-row.result (omega (arith, wide, long, c.told-row)) c.deref.ensures.value c.has-row.ensures in
+    let found = add_found s.capacity (widths s) (lines s) (c.len-count.result - 1) c.index-width.result.now c.args.row.now (omega arith) (omega arith) wide c.deref.result.now c.has_row.result (omega (arith, wide, long, c.told-row)) c.deref.ensures.value c.has_row.ensures in
     let last = last_wide s.capacity (widths s) (lines s) (c.len-count.result - 1) c.index-width.result.now c.args.row.now (omega arith) (omega arith) wide in
-    let r = add_new (meaning s) c.args.row.now (omega (arith, length_numbered 0 (widths s) (lines s))) (found ∙ c.if-has-row.false) (omega (arith, s.counted, last)) in
-    record { reply = r.0; after = add_done s.capacity (widths s) (lines s) (c.len-count.result - 1) c.index-width.result.now c.args.row.now (omega arith) (omega arith) wide _ c.push-reserved.ensures.items ∙ r.1 }
+    let r = add_new (meaning s) c.args.row.now (omega (arith, length_numbered 0 (widths s) (lines s))) (found ∙ c.if-has_row.false) (omega (arith, s.counted, last)) in
+    record { reply = r.0; after = add_done s.capacity (widths s) (lines s) (c.len-count.result - 1) c.index-width.result.now c.args.row.now (omega arith) (omega arith) wide _ c.push_reserved.ensures.items ∙ r.1 }

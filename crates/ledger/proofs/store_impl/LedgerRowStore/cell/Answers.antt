@@ -18,7 +18,7 @@ returns-then-place-len c =
 pub returns-then-number-count : goal.returns-then-number-count
 returns-then-number-count c =
     let s = c.args.self.now in
-    let counted = c.count-rows-count.ensures ∙ ap (λ ls. length (lines_of c.args.table ls)) c.deref.ensures.value ∙ rows_counted (widths s) (lines s) c.args.table (omega arith) in
+    let counted = c.count_rows-count.ensures ∙ ap (λ ls. length (lines_of c.args.table ls)) c.deref.ensures.value ∙ rows_counted (widths s) (lines s) c.args.table (omega arith) in
     let wide = get_or_read (widths s) _ _ (omega arith) c.index-width.ensures 0 ∙ ap (λ x. x.width) (sym (table_is (widths s) (lines s) c.args.table no_table (omega arith))) in
     ap Err c.refuse-then-number-count.ensures ∙ cell_absent (meaning s) c.args.table c.args.row c.args.column (inr (⊎_elim (λ p. inl (omega (arith, counted, p))) (λ p. inr (omega (arith, wide, p.1))) c.then-number-count.either))
 
@@ -35,6 +35,6 @@ returns c =
     let x = get_or l.cells c.args.column (pos 0) in
     let f : SFits w64 x = search rules in
     let wide = get_or_read (widths s) _ _ (omega arith) c.index-width.ensures 0 in
-    let counted = c.count-rows-count.ensures ∙ ap (λ ls. length (lines_of c.args.table ls)) c.deref.ensures.value in
-    let line = c.index.ensures ∙ ap (λ ls. get_or ls c.find-row-at.result l) (sym c.deref-2.ensures.value) ∙ c.find-row-at.ensures.line l ∙ ap (λ ls. get_or (lines_of c.args.table ls) c.args.row l) c.deref-2.ensures.value in
+    let counted = c.count_rows-count.ensures ∙ ap (λ ls. length (lines_of c.args.table ls)) c.deref.ensures.value in
+    let line = c.index.ensures ∙ ap (λ ls. get_or ls c.find_row-at.result l) (sym c.deref-2.ensures.value) ∙ c.find_row-at.ensures.line l ∙ ap (λ ls. get_or (lines_of c.args.table ls) c.args.row l) c.deref-2.ensures.value in
     ap Ok (to_z-of_z w64 x f) ∙ cell_is s.capacity (widths s) (lines s) c.args.table c.args.row c.args.column l x (omega arith) (omega (arith, counted)) (omega (arith, wide)) line refl

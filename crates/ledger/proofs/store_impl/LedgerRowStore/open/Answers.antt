@@ -19,15 +19,15 @@ returns-then-wide-lt1 c =
     let r = open_outside (meaning s) c.args.width (omega (arith, length_numbered 0 (widths s) (lines s))) (⊎_elim inl (λ p. inr (omega arith)) c.then-wide-lt1.either) in
     record { reply = ap Err c.refuse-then-wide-lt1.ensures ∙ r.0; after = r.1 }
 
-pub invariant-of-self : goal.invariant-of-self
-invariant-of-self c =
+pub invariant_of-self : goal.invariant_of-self
+invariant_of-self c =
     let s = c.args.self.now in
-    let grew = c.push-reserved.ensures.items in
+    let grew = c.push_reserved.ensures.items in
     let r = open_accepted (meaning s) c.args.width (omega (arith, length_numbered 0 (widths s) (lines s))) (omega arith) (omega arith) in
-    parts _ (lines s) (sound_as _ _ (open_done s.capacity (widths s) (lines s) c.args.width _ s.owned grew ∙ r.1) (sound_open (meaning s) c.args.width (sound s))) (s.counted ∙ sym (used_open s.capacity (widths s) (lines s) c.args.width _ s.owned grew)) (below_open (widths s) _ c.args.width (lines s) grew s.owned) s.room (omega (arith, c.push-reserved.ensures.capacity))
+    parts _ (lines s) (sound_as _ _ (open_done s.capacity (widths s) (lines s) c.args.width _ s.owned grew ∙ r.1) (sound_open (meaning s) c.args.width (sound s))) (s.counted ∙ sym (used_open s.capacity (widths s) (lines s) c.args.width _ s.owned grew)) (below_open (widths s) _ c.args.width (lines s) grew s.owned) s.room (omega (arith, c.push_reserved.ensures.capacity))
 
 pub returns : goal.returns
 returns c =
     let s = c.args.self.now in
     let r = open_accepted (meaning s) c.args.width (omega (arith, length_numbered 0 (widths s) (lines s))) (omega arith) (omega arith) in
-    record { reply = r.0; after = open_done s.capacity (widths s) (lines s) c.args.width _ s.owned c.push-reserved.ensures.items ∙ r.1 }
+    record { reply = r.0; after = open_done s.capacity (widths s) (lines s) c.args.width _ s.owned c.push_reserved.ensures.items ∙ r.1 }

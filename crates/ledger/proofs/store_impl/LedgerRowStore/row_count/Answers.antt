@@ -11,12 +11,12 @@ returns-then-place-len c =
     let s = c.args.self.now in
     ap Err c.refuse.ensures ∙ rows_absent (meaning s) c.args.table (omega (arith, length_numbered 0 (widths s) (lines s)))
 
-pub overflow-cast-result : goal.overflow-cast-result
-overflow-cast-result c =
+pub overflow_cast-result : goal.overflow_cast-result
+overflow_cast-result c =
     let s = c.args.self.now in
-    omega (arith, c.count-rows.ensures ∙ ap (λ ls. length (lines_of c.args.table ls)) c.deref.ensures.value, few_lines (widths s) (lines s) c.args.table s.owned s.sound, s.counted, s.within, s.small)
+    omega (arith, c.count_rows.ensures ∙ ap (λ ls. length (lines_of c.args.table ls)) c.deref.ensures.value, few_lines (widths s) (lines s) c.args.table s.owned s.sound, s.counted, s.within, s.small)
 
 pub returns : goal.returns
 returns c =
     let s = c.args.self.now in
-    ap Ok (c.count-rows.ensures ∙ ap (λ ls. length (lines_of c.args.table ls)) c.deref.ensures.value ∙ rows_counted (widths s) (lines s) c.args.table (omega arith)) ∙ rows_told (meaning s) c.args.table (omega (arith, length_numbered 0 (widths s) (lines s)))
+    ap Ok (c.count_rows.ensures ∙ ap (λ ls. length (lines_of c.args.table ls)) c.deref.ensures.value ∙ rows_counted (widths s) (lines s) c.args.table (omega arith)) ∙ rows_told (meaning s) c.args.table (omega (arith, length_numbered 0 (widths s) (lines s)))

@@ -7,8 +7,8 @@ use Rattle.listing.proofs.reader.Reader.columns.Goals as goal
 
 pub loop-attribute-preserved : goal.loop-attribute-preserved
 loop-attribute-preserved c = (
-  c.in-ok-further-column.ensures.same ∙ c.loop-attribute.invariant.0,
-  columns_on c.args.script.now c.args.attributes.now c.loop-attribute.attribute-index _ c.loop-attribute.separator.now (rest c.loop-attribute.self) _ c.loop-attribute-test.true c.loop-attribute.invariant.1 _ _ c.in-ok-further-column.ensures.value,
+  c.in_ok-further_column.ensures.same ∙ c.loop-attribute.invariant.0,
+  columns_on c.args.script.now c.args.attributes.now c.loop-attribute.attribute-index _ c.loop-attribute.separator.now (rest c.loop-attribute.self) _ c.loop-attribute-test.true c.loop-attribute.invariant.1 _ _ c.in_ok-further_column.ensures.value,
 )
 
 pub returns : goal.returns
@@ -18,11 +18,11 @@ returns c = record {
   same = c.word.ensures.same ∙ c.loop-attribute.invariant.0;
 }
 
-pub returns-in-err-further-column : goal.returns-in-err-further-column
-returns-in-err-further-column c =
-    let p = err_from_is_err_and c.from-residual.result c.from-residual.ensures.1 in
+pub returns-in_err-further_column : goal.returns-in_err-further_column
+returns-in_err-further_column c =
+    let p = err_from_is_err_and c.from_residual.result c.from_residual.ensures.1 in
     record {
-      value = seen_err c.further-column.new.self _ _ _ p (columns_off c.args.script.now c.args.attributes.now c.loop-attribute.attribute-index _ c.loop-attribute.separator.now (rest c.loop-attribute.self) _ c.loop-attribute-test.true c.loop-attribute.invariant.1 _ _ c.in-err-further-column.ensures.value);
-      place = at_err c.further-column.new.self _ _ p c.in-err-further-column.ensures.place;
-      same = c.in-err-further-column.ensures.same ∙ c.loop-attribute.invariant.0;
+      value = seen_err c.further_column.new.self _ _ _ p (columns_off c.args.script.now c.args.attributes.now c.loop-attribute.attribute-index _ c.loop-attribute.separator.now (rest c.loop-attribute.self) _ c.loop-attribute-test.true c.loop-attribute.invariant.1 _ _ c.in_err-further_column.ensures.value);
+      place = at_err c.further_column.new.self _ _ p c.in_err-further_column.ensures.place;
+      same = c.in_err-further_column.ensures.same ∙ c.loop-attribute.invariant.0;
     }

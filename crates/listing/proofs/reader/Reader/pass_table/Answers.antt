@@ -8,16 +8,16 @@ use Rattle.listing.proofs.reader.Reader.pass_table.Goals as goal
 
 pub returns : goal.returns
 returns c = record {
-  value = c.count-rows.ensures.value ∙ heading_right c.args.script.now (held c.args.schema.now) (rest c.args.self.now) _ _ c.in-ok-heading.ensures.value;
-  place = c.count-rows.ensures.place;
-  same = c.count-rows.ensures.same ∙ c.in-ok-heading.ensures.same;
+  value = c.count_rows.ensures.value ∙ heading_right c.args.script.now (held c.args.schema.now) (rest c.args.self.now) _ _ c.in_ok-heading.ensures.value;
+  place = c.count_rows.ensures.place;
+  same = c.count_rows.ensures.same ∙ c.in_ok-heading.ensures.same;
 }
 
-pub returns-in-err-heading : goal.returns-in-err-heading
-returns-in-err-heading c =
-    let p = err_from_is_err_and c.from-residual.result c.from-residual.ensures.1 in
+pub returns-in_err-heading : goal.returns-in_err-heading
+returns-in_err-heading c =
+    let p = err_from_is_err_and c.from_residual.result c.from_residual.ensures.1 in
     record {
-      value = seen_err c.heading.new.self _ _ _ p (heading_wrong c.args.script.now (held c.args.schema.now) (rest c.args.self.now) _ _ c.in-err-heading.ensures.value);
-      place = at_err c.heading.new.self _ _ p c.in-err-heading.ensures.place;
-      same = c.in-err-heading.ensures.same;
+      value = seen_err c.heading.new.self _ _ _ p (heading_wrong c.args.script.now (held c.args.schema.now) (rest c.args.self.now) _ _ c.in_err-heading.ensures.value);
+      place = at_err c.heading.new.self _ _ p c.in_err-heading.ensures.place;
+      same = c.in_err-heading.ensures.same;
     }

@@ -38,7 +38,7 @@ loop-b-preserved c = (
 
 pub returns : goal.returns
 returns c = record {
-  value = ap (λ f. refused f.rule (rest c.loop-b.self)) c.refuse-2.ensures ∙ ended c.loop-b.self.text.now c.args.self.now.at c.loop-b.self.at c.loop-b.left _ c.loop-b.invariant.4 c.in-default.ensures.ahead;
+  value = ap (λ f. refused f.rule (rest c.loop-b.self)) c.refuse-2.ensures ∙ ended c.loop-b.self.text.now c.args.self.now.at c.loop-b.self.at c.loop-b.left _ c.loop-b.invariant.4 c.in_default.ensures.ahead;
   place = c.refuse-2.ensures ∙ ap (λ f. fault_at f.rule c.loop-b.self.text.now c.loop-b.self.at) (sym c.refuse-2.ensures);
   same = c.loop-b.invariant.2;
 }

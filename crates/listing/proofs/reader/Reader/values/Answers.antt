@@ -17,35 +17,35 @@ pub loop-attribute-preserved : goal.loop-attribute-preserved
 loop-attribute-preserved c =
     let all = c.args.attributes.now in
     let i = c.loop-attribute.attribute-index in (
-      c.in-ok-cells.ensures.same ∙ c.loop-attribute.invariant.0,
+      c.in_ok-cells.ensures.same ∙ c.loop-attribute.invariant.0,
       ap (λ n. n + 1) c.loop-attribute.invariant.1,
       length-set c.loop-attribute.cells c.loop-attribute.count _ ∙ c.loop-attribute.invariant.2,
-      ap (λ n. gathered (values_in (i + 1) c.further-value.new.self.text.now (set c.loop-attribute.cells n c.in-ok-cells.field-0)) (entries WrongRow read_value comma (domains_of (drop (i + 1) all)) (rest c.further-value.new.self))) c.loop-attribute.invariant.1
+      ap (λ n. gathered (values_in (i + 1) c.further_value.new.self.text.now (set c.loop-attribute.cells n c.in_ok-cells.field-0)) (entries WrongRow read_value comma (domains_of (drop (i + 1) all)) (rest c.further_value.new.self))) c.loop-attribute.invariant.1
           ∙ values_on c.loop-attribute.self.text.now all i _ c.loop-attribute.separator.now (rest c.loop-attribute.self) c.loop-attribute.cells _ c.loop-attribute-test.true c.loop-attribute.invariant.3
-          _ _ _ (omega (arith, c.requires, c.loop-attribute.invariant.2, c.loop-attribute-test.true)) c.in-ok-cells.ensures.same c.in-ok-cells.ensures.value,
+          _ _ _ (omega (arith, c.requires, c.loop-attribute.invariant.2, c.loop-attribute-test.true)) c.in_ok-cells.ensures.same c.in_ok-cells.ensures.value,
     )
 
-pub returns-in-err-cells : goal.returns-in-err-cells
-returns-in-err-cells c =
-    let p = err_from_is_err_and c.from-residual.result c.from-residual.ensures.1 in
+pub returns-in_err-cells : goal.returns-in_err-cells
+returns-in_err-cells c =
+    let p = err_from_is_err_and c.from_residual.result c.from_residual.ensures.1 in
     record {
-      value = seen_as_err (values_in (length c.args.attributes.now)) c.further-value.new.self _ _ _ p (values_off c.loop-attribute.self.text.now c.args.attributes.now c.loop-attribute.attribute-index _ c.loop-attribute.separator.now (rest c.loop-attribute.self) c.loop-attribute.cells _ c.loop-attribute-test.true c.loop-attribute.invariant.3 _ _ c.in-err-cells.ensures.value);
-      place = at_err c.further-value.new.self _ _ p c.in-err-cells.ensures.place;
-      same = c.in-err-cells.ensures.same ∙ c.loop-attribute.invariant.0;
+      value = seen_as_err (values_in (length c.args.attributes.now)) c.further_value.new.self _ _ _ p (values_off c.loop-attribute.self.text.now c.args.attributes.now c.loop-attribute.attribute-index _ c.loop-attribute.separator.now (rest c.loop-attribute.self) c.loop-attribute.cells _ c.loop-attribute-test.true c.loop-attribute.invariant.3 _ _ c.in_err-cells.ensures.value);
+      place = at_err c.further_value.new.self _ _ p c.in_err-cells.ensures.place;
+      same = c.in_err-cells.ensures.same ∙ c.loop-attribute.invariant.0;
     }
 
-pub returns-in-err-word : goal.returns-in-err-word
-returns-in-err-word c =
-    let p = err_from_is_err_and c.from-residual-in-err-word.result c.from-residual-in-err-word.ensures.1 in
+pub returns-in_err-word : goal.returns-in_err-word
+returns-in_err-word c =
+    let p = err_from_is_err_and c.from_residual-in_err-word.result c.from_residual-in_err-word.ensures.1 in
     record {
-      value = seen_as_err (values_in (length c.args.attributes.now)) c.word.new.self _ _ _ p (values_unclosed c.loop-attribute.self.text.now c.args.attributes.now c.loop-attribute.attribute-index c.loop-attribute.separator.now (rest c.loop-attribute.self) c.loop-attribute.cells _ c.loop-attribute-test.false (omega arith) c.loop-attribute.invariant.3 _ _ c.in-err-word.ensures.value);
-      place = at_err c.word.new.self _ _ p c.in-err-word.ensures.place;
-      same = c.in-err-word.ensures.same ∙ c.loop-attribute.invariant.0;
+      value = seen_as_err (values_in (length c.args.attributes.now)) c.word.new.self _ _ _ p (values_unclosed c.loop-attribute.self.text.now c.args.attributes.now c.loop-attribute.attribute-index c.loop-attribute.separator.now (rest c.loop-attribute.self) c.loop-attribute.cells _ c.loop-attribute-test.false (omega arith) c.loop-attribute.invariant.3 _ _ c.in_err-word.ensures.value);
+      place = at_err c.word.new.self _ _ p c.in_err-word.ensures.place;
+      same = c.in_err-word.ensures.same ∙ c.loop-attribute.invariant.0;
     }
 
 pub returns : goal.returns
 returns c = record {
-  value = values_closed c.loop-attribute.self.text.now c.args.attributes.now c.loop-attribute.attribute-index c.loop-attribute.separator.now (rest c.loop-attribute.self) c.loop-attribute.cells _ c.loop-attribute-test.false (omega arith) c.loop-attribute.invariant.3 _ _ c.in-ok-word.ensures.same c.in-ok-word.ensures.value;
+  value = values_closed c.loop-attribute.self.text.now c.args.attributes.now c.loop-attribute.attribute-index c.loop-attribute.separator.now (rest c.loop-attribute.self) c.loop-attribute.cells _ c.loop-attribute-test.false (omega arith) c.loop-attribute.invariant.3 _ _ c.in_ok-word.ensures.same c.in_ok-word.ensures.value;
   place = tt;
-  same = c.in-ok-word.ensures.same ∙ c.loop-attribute.invariant.0;
+  same = c.in_ok-word.ensures.same ∙ c.loop-attribute.invariant.0;
 }

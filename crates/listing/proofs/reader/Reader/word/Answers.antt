@@ -8,8 +8,8 @@ use Rattle.listing.proofs.reader.Reader.word.Goals as goal
 
 pub loop-b-preserved : goal.loop-b-preserved
 loop-b-preserved c = (
-  c.in-ok-byte.ensures.same ∙ c.loop-b.invariant.0,
-  word_on_lem c.args.rule c.args.wanted.now c.loop-b.b-index (rest c.loop-b.self) _ c.loop-b-test.true c.loop-b.invariant.1 _ c.in-ok-byte.ensures.value,
+  c.in_ok-byte.ensures.same ∙ c.loop-b.invariant.0,
+  word_on_lem c.args.rule c.args.wanted.now c.loop-b.b-index (rest c.loop-b.self) _ c.loop-b-test.true c.loop-b.invariant.1 _ c.in_ok-byte.ensures.value,
 )
 
 pub returns : goal.returns
@@ -19,8 +19,8 @@ returns c = record {
   same = c.loop-b.invariant.0;
 }
 
-pub returns-in-err-byte : goal.returns-in-err-byte
-returns-in-err-byte c =
-    let p = err_from_is_err_and c.from-residual.result c.from-residual.ensures.1 in
-    let off = word_off c.args.rule c.args.wanted.now c.loop-b.b-index (rest c.loop-b.self) _ c.loop-b-test.true c.loop-b.invariant.1 _ _ c.in-err-byte.ensures.value in
-    record { value = ap (seen c.byte.new.self) (p.1 ∙ ap Err p.2) ∙ off; place = subst (AtFault c.byte.new.self) (sym (p.1 ∙ ap Err p.2)) c.in-err-byte.ensures.place; same = c.in-err-byte.ensures.same ∙ c.loop-b.invariant.0 }
+pub returns-in_err-byte : goal.returns-in_err-byte
+returns-in_err-byte c =
+    let p = err_from_is_err_and c.from_residual.result c.from_residual.ensures.1 in
+    let off = word_off c.args.rule c.args.wanted.now c.loop-b.b-index (rest c.loop-b.self) _ c.loop-b-test.true c.loop-b.invariant.1 _ _ c.in_err-byte.ensures.value in
+    record { value = ap (seen c.byte.new.self) (p.1 ∙ ap Err p.2) ∙ off; place = subst (AtFault c.byte.new.self) (sym (p.1 ∙ ap Err p.2)) c.in_err-byte.ensures.place; same = c.in_err-byte.ensures.same ∙ c.loop-b.invariant.0 }

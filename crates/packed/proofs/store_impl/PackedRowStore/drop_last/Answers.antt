@@ -7,8 +7,8 @@ use Rattle.packed.proofs.Fields.{entries, run, meaning, held, parts}
 use Rattle.packed.proofs.Beginnings.{starts_dropped, cut_at}
 use Rattle.packed.proofs.store_impl.PackedRowStore.drop_last.Goals as goal
 
-pub invariant-of-self-2 : goal.invariant-of-self-2
-invariant-of-self-2 c =
+pub invariant_of-self-2 : goal.invariant_of-self-2
+invariant_of-self-2 c =
     let s = c.args.self.now in
     let is = c.in-Some.ensures.items in
     parts (held_drop _ c.in-Some.last _ (held s) is (cut_at _ _ _ (run s) _ is s.full s.begun c.truncate.ensures.items)) (starts_dropped _ _ _ is s.begun) (omega (arith, s.room, c.truncate.ensures.capacity)) (omega (arith, s.places, c.pop.ensures.capacity))

@@ -20,14 +20,14 @@ returns-then-wide-lt1 c =
     let r = open_outside (meaning s) c.args.width (omega (arith, length_decode (entries s) (run s))) (⊎_elim inl (λ p. inr (omega arith)) c.then-wide-lt1.either) in
     record { reply = ap Err c.refuse-then-wide-lt1.ensures ∙ r.0; after = r.1 }
 
-pub invariant-of-self : goal.invariant-of-self
-invariant-of-self c =
+pub invariant_of-self : goal.invariant_of-self
+invariant_of-self c =
     let s = c.args.self.now in
-    let grew = c.push-reserved.ensures.items in
-    parts (held_open _ c.args.width _ (held s) (omega arith) (omega arith) (omega arith) grew) (ap (starts 0) grew ∙ starts_open (entries s) _ s.begun (omega arith)) s.room (omega (arith, c.push-reserved.ensures.capacity))
+    let grew = c.push_reserved.ensures.items in
+    parts (held_open _ c.args.width _ (held s) (omega arith) (omega arith) (omega arith) grew) (ap (starts 0) grew ∙ starts_open (entries s) _ s.begun (omega arith)) s.room (omega (arith, c.push_reserved.ensures.capacity))
 
 pub returns : goal.returns
 returns c =
     let s = c.args.self.now in
     let r = open_accepted (meaning s) c.args.width (omega (arith, length_decode (entries s) (run s))) (omega arith) (omega arith) in
-    record { reply = r.0; after = ap (λ es. laid s.capacity es (run s)) c.push-reserved.ensures.items ∙ ap (λ ts. record { capacity = s.capacity; tables = ts }) (decode_open (entries s) (run s) _ c.args.width) ∙ r.1 }
+    record { reply = r.0; after = ap (λ es. laid s.capacity es (run s)) c.push_reserved.ensures.items ∙ ap (λ ts. record { capacity = s.capacity; tables = ts }) (decode_open (entries s) (run s) _ c.args.width) ∙ r.1 }

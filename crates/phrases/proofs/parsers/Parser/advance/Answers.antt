@@ -3,10 +3,10 @@ use Rattle.std.proofs.lemmas.Result.{err_from_is_err_and}
 use Rattle.phrases.proofs.Steps.{heard_pays, heard_tells, heard_tokens, faulty_tokens, cases_err, stepped_err, to_stepped}
 use Rattle.phrases.proofs.parsers.Parser.advance.Goals as goal
 
-pub returns-in-err-self : goal.returns-in-err-self
-returns-in-err-self c =
-    let y = err_from_is_err_and c.from-residual.result c.from-residual.ensures.1 in
-    let n = c.in-err-self.ensures in
+pub returns-in_err-self : goal.returns-in_err-self
+returns-in_err-self c =
+    let y = err_from_is_err_and c.from_residual.result c.from_residual.ensures.1 in
+    let n = c.in_err-self.ensures in
     record {
       count = refl;
       paid = cases_err _ _ _ y.1;
@@ -15,7 +15,7 @@ returns-in-err-self c =
 
 pub returns : goal.returns
 returns c =
-    let n = c.in-ok-self.ensures in
+    let n = c.in_ok-self.ensures in
     let pays = heard_pays _ _ _ _ n.value n.moved in
     record {
       count = refl;

@@ -8,21 +8,21 @@ returns-then-depth-eq0 c =
     record {
       count = refl;
       paid = tt;
-      step = λ text g. opened_none text _ c.args.self.now c.args.self.now _ c.if-depth-eq0.true c.requires.token g c.too-deep.ensures;
+      step = λ text g. opened_none text _ c.args.self.now c.args.self.now _ c.if-depth-eq0.true c.requires.token g c.too_deep.ensures;
     }
 
-pub returns-in-err-advance : goal.returns-in-err-advance
-returns-in-err-advance c =
-    let y = err_from_is_err_and c.from-residual.result c.from-residual.ensures.1 in
+pub returns-in_err-advance : goal.returns-in_err-advance
+returns-in_err-advance c =
+    let y = err_from_is_err_and c.from_residual.result c.from_residual.ensures.1 in
     record {
       count = c.advance.ensures.count;
       paid = cases_err _ _ _ y.1;
-      step = λ text g. opened_broken text c.args.depth (c.args.depth - 1) c.args.self.now c.advance.new.self _ _ _ (omega (arith, c.if-depth-eq0.false)) c.requires.token y.1 y.2 (stepped_broken text c.args.self.now c.advance.new.self _ (c.in-err-advance.ensures.step text g));
+      step = λ text g. opened_broken text c.args.depth (c.args.depth - 1) c.args.self.now c.advance.new.self _ _ _ (omega (arith, c.if-depth-eq0.false)) c.requires.token y.1 y.2 (stepped_broken text c.args.self.now c.advance.new.self _ (c.in_err-advance.ensures.step text g));
     }
 
 pub returns : goal.returns
 returns c =
-    let s = c.in-ok-advance.ensures in
+    let s = c.in_ok-advance.ensures in
     record {
       count = s.count;
       paid = s.paid;
