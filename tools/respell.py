@@ -247,7 +247,12 @@ def main(words):
     folders = [w for w in words if not w.startswith("--")]
     root = folders[0] if folders else "."
     OWN.update(os.listdir(os.path.join(root, "crates")))
-    speller = Speller(*declared(root))
+    names, fields = declared(root)
+    for plain, camel in ("line_after", "lineAfter"), ("line_reply", "lineReply"), ("word_on", "wordOn"):
+        if camel not in names:
+            APART.pop(plain, None)
+            names.discard(plain)
+    speller = Speller(names, fields)
     for path in files(root, ".antt", ".rt"):
         old = read(path)
         new = speller.antt(path, old) if path.endswith(".antt") else speller.rt(path, old)

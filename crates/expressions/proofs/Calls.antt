@@ -1,41 +1,23 @@
 -- What a function answers by what the call at its end has answered.
-use Rattle.std.proofs.Common.{◌≡◌, ℕ, zero, suc, ◌+◌, ◌<◌, ◌≤◌, Bool, true, false, eqb, List, [], ◌∷◌, ◌++◌, IfOk, Some, None, Ok, Err, Option, Result, sym, refl, ap, ◌∙◌, subst, arith}
+use Rattle.std.proofs.Common.{◌≡◌, ℕ, suc, ◌<◌, List, IfOk, Ok, Err, Result, sym, refl, ap, ◌∙◌, subst, arith}
 use mathlib.Core.Option.{some}
-use Rattle.std.proofs.lemmas.Bool.{eqb-true}
 use Rattle.fault.specs.declared.rules.Fault.{Fault}
-use Rattle.fault.specs.declared.rules.Rule.{Rule}
-use Rattle.words.specs.declared.tokens.Word.TheVariants.{Program, End, Table, If, Then, Else, While, Do, Read, Write, Join, Not, Project, Select, Exists}
-use Rattle.words.specs.declared.tokens.Word.TheVariants.{All, Update, Extend, Rename}
-use Rattle.words.specs.declared.tokens.Sum.TheVariants.{Plus, Minus}
 use Rattle.words.specs.declared.tokens.Sign.TheVariants.{LeftParenthesis, RightParenthesis, LeftBracket, RightBracket, LeftBrace, RightBrace, Semicolon}
 use Rattle.words.specs.declared.tokens.Sign.TheVariants.{Comma, Assign}
 use Rattle.words.specs.Lexing.{end_of}
-use Rattle.words.specs.Tokens.{Bytes, Place, Terminal, Token, Token.◌at◌, Terminal.word, Terminal.sign, Terminal.domain, Terminal.logic, Terminal.comparison}
-use Rattle.words.specs.Tokens.{Terminal.sum, Terminal.product, Terminal.truth, Terminal.integer, Terminal.string, Terminal.name, Terminal.broken}
-use Rattle.grammar.specs.Parts.{Part, Level, Turn as Move, Turn.stop, Turn.take_operator, Turn.take_join, Operator as Sort, Operator.logic_operator, Operator.comparison_operator, Operator.sum_operator, Operator.product_operator}
-use Rattle.grammar.specs.Parts.{Unary.unary_minus, Unary.unary_not, Unary.unary_project, Unary.unary_rename, Unary.unary_select, Unary.unary_exists, Unary.unary_all, Unary.unary_update, Unary.unary_extend}
-use Rattle.grammar.specs.Parts.{Unary as Applied, Argument, Argument.no_argument, Argument.names_argument, Argument.condition_argument, Argument.update_argument, Argument.extend_argument}
-use Rattle.grammar.specs.Parts.{Leaf, Leaf.name_leaf, Leaf.type_leaf, Leaf.constant_leaf, Level.name_level, Level.type_level, Level.tuple_level, Level.constant_level, Level.logic_level, Level.comparison_level, Level.compared_level, Level.sum_level, Level.product_level}
-use Rattle.grammar.specs.Parts.{argument_of, apply, nothing, name_and_expression, type_name_and_expression, table_constant, combine, join_parts, turn_at, level_after, code_of, code_in, left_parenthesis, right_parenthesis, left_bracket, right_bracket, right_brace, assign_token, place_of, origin}
+use Rattle.words.specs.Tokens.{Bytes, Place, Token, Token.◌at◌, Terminal.sign}
+use Rattle.grammar.specs.Parts.{Part}
+use Rattle.grammar.specs.Parts.{Argument.names_argument, Argument.condition_argument, Argument.update_argument, Argument.extend_argument}
+use Rattle.grammar.specs.Parts.{Leaf.name_leaf, Leaf.type_leaf, Level.name_level, Level.type_level}
+use Rattle.grammar.specs.Parts.{argument_of, name_and_expression, type_name_and_expression, code_of, assign_token, origin}
 use Rattle.grammar.specs.Promise.{any_token}
-use Rattle.grammar.specs.Readers.{Cause.cannot_follow, Cause.too_deep, Outcome, Outcome.found as read, Outcome.refused_at, Reader, and_then, take_turn, expect_if, expect_token, read_leaf, read_level, rest, read_instance, read_expression, read_bracket, read_argument, openings, factors_at, brackets_at, expressions_at, Shorter}
-use Rattle.grammar.proofs.Fuel.{rest_nil, rest_cons, level_is, factor_shorter, bracket_shorter, product_shorter, sum_shorter, comparison_shorter}
+use Rattle.grammar.specs.Readers.{Outcome, Outcome.found as read, Reader, expect_token, read_leaf, read_level, brackets_at, expressions_at}
 use Rattle.phrases.specs.Places.{pays_ahead}
-use Rattle.phrases.proofs.Scans.{pays_some}
-use Rattle.phrases.specs.States.{before, broken_in, fault_at, refused_by, Halts, opened, code_ahead}
-use Rattle.phrases.proofs.Steps.{refused_ahead, refused_first, refused_then}
+use Rattle.phrases.specs.States.{refused_by, opened}
 use Rattle.expressions.specs.declared.sorts.Level.{Level as Rank}
-use Rattle.expressions.specs.declared.sorts.Level.TheVariants as rank
-use Rattle.expressions.specs.declared.sorts.Operator.{Operator}
-use Rattle.expressions.specs.declared.sorts.Operator.TheVariants as operator
-use Rattle.expressions.specs.declared.sorts.Turn.{Turn}
-use Rattle.expressions.specs.declared.sorts.Turn.TheVariants as turn
 use Rattle.expressions.specs.declared.sorts.Unary.{Unary}
 use Rattle.expressions.specs.declared.sorts.Unary.TheVariants as unary
-use Rattle.expressions.specs.declared.sorts.Start.{Start}
-use Rattle.expressions.specs.declared.sorts.Start.TheVariants as start
-use Rattle.expressions.specs.Starts.{start_in, turn_in, level_behind}
-use Rattle.expressions.specs.Shapes.{level_of, unary_of, operand_reader, level_reader, negation_behind, assigned_reader, inside_reader, unary_behind, enclosed_behind, table_reader}
+use Rattle.expressions.specs.Shapes.{unary_of, assigned_reader, inside_reader}
 use Rattle.words.specs.declared.tokens.Sign.{Sign}
 use Rattle.expressions.specs.declared.sorts.Bracketed.{Bracketed}
 use Rattle.domain.specs.declared.Domain.{Domain}
@@ -43,13 +25,11 @@ use Rattle.grammar.specs.Tree.{Name.named, AtomicType.typed}
 use Rattle.grammar.specs.Parts.{name_part, type_part}
 use Rattle.tree.specs.Kept.{Below, Beyond}
 use Rattle.tree.specs.declared.nodes.Node.{Node}
-use Rattle.tree.proofs.Grown.{below_then, beyond_then}
 use Rattle.phrases.specs.declared.parsers.Parser.{Parser}
 use Rattle.phrases.specs.Held.{Held}
 use Rattle.phrases.specs.States.{Holding, Done, Answers, Grounded, Numbers, tokens_ahead, ahead_at, behind}
 use Rattle.phrases.proofs.Steps.{opened_is}
 use Rattle.words.specs.Views.{spoken}
-use Rattle.expressions.specs.declared.sorts.Bracketed.TheVariants as bracketed
 use Rattle.expressions.specs.Starts.{bracketed_of}
 use Rattle.expressions.specs.Shapes.{Expressed, Assigned, Inside, argument_for}
 use Rattle.phrases.specs.declared.sorts.Listed.{Listed}

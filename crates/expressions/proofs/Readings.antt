@@ -1,29 +1,25 @@
 -- The readers in the shape of the code, part by part: where the first part is refused, the whole is, and so on.
-use Rattle.std.proofs.Common.{◌≡◌, ℕ, zero, suc, ◌+◌, ◌<◌, ◌≤◌, Bool, true, false, eqb, List, [], ◌∷◌, ◌++◌, Some, None, Ok, Err, Option, Result, sym, refl, ap, ◌∙◌, subst, arith}
+use Rattle.std.proofs.Common.{◌≡◌, ℕ, ◌<◌, false, eqb, List, ◌∷◌, Some, None, Option, sym, refl, ap, ◌∙◌, arith}
 use mathlib.Core.Option.{some}
-use Rattle.std.proofs.lemmas.Bool.{eqb-true}
 use Rattle.fault.specs.declared.rules.Fault.{Fault}
-use Rattle.fault.specs.declared.rules.Rule.{Rule}
 use Rattle.words.specs.declared.tokens.Word.TheVariants.{Program, End, Table, If, Then, Else, While, Do, Read, Write, Join, Not, Project, Select, Exists}
 use Rattle.words.specs.declared.tokens.Word.TheVariants.{All, Update, Extend, Rename}
 use Rattle.words.specs.declared.tokens.Sum.TheVariants.{Plus, Minus}
 use Rattle.words.specs.declared.tokens.Sign.TheVariants.{LeftParenthesis, RightParenthesis, LeftBracket, RightBracket, LeftBrace, RightBrace, Semicolon}
 use Rattle.words.specs.declared.tokens.Sign.TheVariants.{Comma, Assign}
-use Rattle.words.specs.Lexing.{end_of}
-use Rattle.words.specs.Tokens.{Bytes, Place, Terminal, Token, Token.◌at◌, Terminal.word, Terminal.sign, Terminal.domain, Terminal.logic, Terminal.comparison}
+use Rattle.words.specs.Tokens.{Place, Terminal, Token, Token.◌at◌, Terminal.word, Terminal.sign, Terminal.domain, Terminal.logic, Terminal.comparison}
 use Rattle.words.specs.Tokens.{Terminal.sum, Terminal.product, Terminal.truth, Terminal.integer, Terminal.string, Terminal.name, Terminal.broken}
-use Rattle.grammar.specs.Parts.{Part, Level, Turn as Move, Turn.stop, Turn.take_operator, Turn.take_join, Operator as Sort, Operator.logic_operator, Operator.comparison_operator, Operator.sum_operator, Operator.product_operator}
-use Rattle.grammar.specs.Parts.{Unary.unary_minus, Unary.unary_not, Unary.unary_project, Unary.unary_rename, Unary.unary_select, Unary.unary_exists, Unary.unary_all, Unary.unary_update, Unary.unary_extend}
-use Rattle.grammar.specs.Parts.{Unary as Applied, Argument, Argument.no_argument, Argument.names_argument, Argument.condition_argument, Argument.update_argument, Argument.extend_argument}
-use Rattle.grammar.specs.Parts.{Leaf, Leaf.name_leaf, Leaf.type_leaf, Leaf.constant_leaf, Level.name_level, Level.type_level, Level.tuple_level, Level.constant_level, Level.logic_level, Level.comparison_level, Level.compared_level, Level.sum_level, Level.product_level}
-use Rattle.grammar.specs.Parts.{argument_of, apply, nothing, name_and_expression, type_name_and_expression, table_constant, combine, join_parts, turn_at, level_after, code_of, code_in, left_parenthesis, right_parenthesis, left_bracket, right_bracket, right_brace, assign_token, place_of, origin}
+use Rattle.grammar.specs.Parts.{Part, Turn as Move, Turn.stop, Turn.take_operator, Turn.take_join, Operator as Sort, Operator.logic_operator, Operator.comparison_operator, Operator.sum_operator, Operator.product_operator}
+use Rattle.grammar.specs.Parts.{Unary as Applied, Argument.extend_argument}
+use Rattle.grammar.specs.Parts.{Leaf, Leaf.name_leaf, Leaf.type_leaf, Leaf.constant_leaf}
+use Rattle.grammar.specs.Parts.{argument_of, apply, nothing, name_and_expression, type_name_and_expression, combine, join_parts, turn_at, level_after, code_of, left_bracket, right_bracket, assign_token}
 use Rattle.grammar.specs.Promise.{any_token}
-use Rattle.grammar.specs.Readers.{Cause.cannot_follow, Cause.too_deep, Outcome, Outcome.found as read, Outcome.refused_at, Reader, and_then, take_turn, expect_if, expect_token, read_leaf, read_level, rest, read_instance, read_expression, read_bracket, read_argument, openings, factors_at, brackets_at, expressions_at, Shorter}
+use Rattle.grammar.specs.Readers.{Outcome, Outcome.found as read, Outcome.refused_at, Reader, and_then, take_turn, expect_if, expect_token, read_leaf, read_level, rest, read_expression, read_bracket, factors_at, brackets_at, expressions_at, Shorter}
 use Rattle.grammar.proofs.Fuel.{rest_nil, rest_cons, level_is, factor_shorter, bracket_shorter, product_shorter, sum_shorter, comparison_shorter}
 use Rattle.phrases.specs.Places.{pays_ahead}
 use Rattle.phrases.proofs.Scans.{pays_some}
-use Rattle.phrases.specs.States.{before, broken_in, fault_at, refused_by, Halts, opened, code_ahead}
-use Rattle.phrases.proofs.Steps.{refused_ahead, refused_first, refused_then}
+use Rattle.phrases.specs.States.{before, broken_in, refused_by, Halts}
+use Rattle.phrases.proofs.Steps.{refused_ahead, refused_first}
 use Rattle.expressions.specs.declared.sorts.Level.{Level as Rank}
 use Rattle.expressions.specs.declared.sorts.Level.TheVariants as rank
 use Rattle.expressions.specs.declared.sorts.Operator.{Operator}
@@ -32,10 +28,8 @@ use Rattle.expressions.specs.declared.sorts.Turn.{Turn}
 use Rattle.expressions.specs.declared.sorts.Turn.TheVariants as turn
 use Rattle.expressions.specs.declared.sorts.Unary.{Unary}
 use Rattle.expressions.specs.declared.sorts.Unary.TheVariants as unary
-use Rattle.expressions.specs.declared.sorts.Start.{Start}
-use Rattle.expressions.specs.declared.sorts.Start.TheVariants as start
-use Rattle.expressions.specs.Starts.{start_in, turn_in, level_behind}
-use Rattle.expressions.specs.Shapes.{level_of, unary_of, operand_reader, level_reader, negation_behind, assigned_reader, inside_reader, unary_behind, enclosed_behind, table_reader}
+use Rattle.expressions.specs.Starts.{turn_in, level_behind}
+use Rattle.expressions.specs.Shapes.{level_of, unary_of, operand_reader, level_reader, negation_behind, assigned_reader, inside_reader, unary_behind, enclosed_behind}
 
 pub found_halts : (end : Place) (t : Part) → Halts end (λ s. read t s)
 unfolding refused_by

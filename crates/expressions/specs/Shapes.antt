@@ -1,17 +1,16 @@
 -- The readers of the grammar in the shape of the parser's functions, each on the tokens from the function's first one on.
-use Rattle.std.specs.Prelude.{◌≡◌, ℕ, suc, ◌<◌, List, [], ◌∷◌}
+use Rattle.std.specs.Prelude.{◌≡◌, ℕ, suc, ◌<◌, [], ◌∷◌}
 use Rattle.words.specs.declared.tokens.Sign.{Sign}
-use Rattle.words.specs.Tokens.{Bytes, Place, Token, Token.◌at◌, Terminal.sign}
-use Rattle.grammar.specs.Parts.{Part, Level, Unary, Argument, Argument.no_argument, Argument.names_argument, Argument.condition_argument, Argument.update_argument, Argument.extend_argument}
+use Rattle.words.specs.Tokens.{Place, Token, Token.◌at◌, Terminal.sign}
+use Rattle.grammar.specs.Parts.{Level, Unary, Argument, Argument.no_argument, Argument.names_argument, Argument.condition_argument, Argument.update_argument, Argument.extend_argument}
 use Rattle.grammar.specs.Parts.{Leaf.name_leaf, Leaf.type_leaf, Level.name_level, Level.logic_level, Level.comparison_level, Level.compared_level, Level.sum_level, Level.product_level}
-use Rattle.grammar.specs.Parts.{Unary.unary_minus, Unary.unary_not, Unary.unary_project, Unary.unary_rename, Unary.unary_select, Unary.unary_exists, Unary.unary_all, Unary.unary_update, Unary.unary_extend}
+use Rattle.grammar.specs.Parts.{Unary.unary_project, Unary.unary_rename, Unary.unary_select, Unary.unary_exists, Unary.unary_all, Unary.unary_update, Unary.unary_extend}
 use Rattle.grammar.specs.Parts.{argument_of, apply, nothing, name_and_expression, type_name_and_expression, table_constant, first_name, first_type, left_bracket, right_bracket, right_brace, assign_token, place_of, origin}
 use Rattle.grammar.specs.Promise.{any_token}
-use Rattle.grammar.specs.Readers.{Cause.cannot_follow, Outcome, Outcome.found, Outcome.refused_at, Reader, and_then, expect_token, read_leaf, read_level, read_instance, factors_at, brackets_at, expressions_at}
+use Rattle.grammar.specs.Readers.{Cause.cannot_follow, Outcome.found, Outcome.refused_at, Reader, and_then, expect_token, read_leaf, read_level, read_instance, factors_at, brackets_at, expressions_at}
 use Rattle.tree.specs.Holds.{HoldsName, HoldsType, HoldsExpression}
-use Rattle.tree.specs.declared.nodes.Node.{Node}
 use Rattle.phrases.specs.Held.{Held, ExpressionHeld}
-use Rattle.phrases.specs.States.{opened, Holding}
+use Rattle.phrases.specs.States.{Holding}
 use Rattle.expressions.specs.declared.sorts.Bracketed.{Bracketed}
 use Rattle.expressions.specs.declared.sorts.Bracketed.TheVariants as bracketed
 use Rattle.expressions.specs.declared.sorts.Level.{Level as Rank}

@@ -7,7 +7,7 @@ use Rattle.words.specs.declared.tokens.Word.TheVariants.{All, Update, Extend, Re
 use Rattle.words.specs.declared.tokens.Sum.TheVariants.{Plus, Minus}
 use Rattle.words.specs.declared.tokens.Sign.TheVariants.{LeftParenthesis, RightParenthesis, LeftBracket, RightBracket, LeftBrace, RightBrace, Semicolon}
 use Rattle.words.specs.declared.tokens.Sign.TheVariants.{Comma, Assign}
-use Rattle.words.specs.Tokens.{Bytes, Place, Terminal, Token, Token.◌at◌, Terminal.word, Terminal.sign, Terminal.domain, Terminal.logic, Terminal.comparison}
+use Rattle.words.specs.Tokens.{Terminal, Terminal.word, Terminal.sign, Terminal.domain, Terminal.logic, Terminal.comparison}
 use Rattle.words.specs.Tokens.{Terminal.sum, Terminal.product, Terminal.truth, Terminal.integer, Terminal.string, Terminal.name, Terminal.broken}
 use Rattle.tree.specs.declared.nodes.What.{What}
 use Rattle.tree.specs.declared.nodes.What.TheVariants as what

@@ -1,16 +1,15 @@
 -- A token that is a node by itself: the reader finds it, and the node holds it.
-use Rattle.std.proofs.Common.{◌≡◌, ℕ, suc, ◌+◌, ◌<◌, ◌≤◌, Bool, true, cond, leb, List, [], ◌∷◌, length, take, drop, set, pos, Some, None, Option, sym, refl, ap, ◌∙◌, subst, arith}
+use Rattle.std.proofs.Common.{◌≡◌, ℕ, suc, ◌+◌, ◌≤◌, Bool, cond, leb, List, length, take, drop, pos, Some, None, Option, sym, refl, ap, ◌∙◌, subst, arith}
 use Rattle.std.proofs.lemmas.Bool.{le-leb}
 use Rattle.domain.specs.declared.Domain.{Domain}
 use Rattle.fault.specs.Limits.{script_bytes, name_bytes, string_bytes, integer_max}
 use Rattle.words.specs.Numbers.{value_of}
 use Rattle.words.specs.Spans.{part_of}
-use Rattle.words.specs.declared.spans.Span.{Span}
-use Rattle.words.specs.Tokens.{Bytes, Place, Terminal, Token, Token.◌at◌, Terminal.word, Terminal.sign, Terminal.domain, Terminal.logic, Terminal.comparison}
+use Rattle.words.specs.Tokens.{Bytes, Place, Terminal, Token, Terminal.word, Terminal.sign, Terminal.domain, Terminal.logic, Terminal.comparison}
 use Rattle.words.specs.Tokens.{Terminal.sum, Terminal.product, Terminal.truth, Terminal.integer, Terminal.string, Terminal.name, Terminal.broken}
 use Rattle.grammar.specs.Tree.{Name.named, AtomicType.typed, Constant.integer_constant, Constant.string_constant, Constant.truth_constant}
 use Rattle.grammar.specs.Parts.{Part, Leaf, Leaf.name_leaf, Leaf.type_leaf, Leaf.constant_leaf, name_part, type_part, constant_part}
-use Rattle.grammar.specs.Readers.{Cause.cannot_follow, Outcome, Outcome.found, Outcome.refused_at, read_leaf}
+use Rattle.grammar.specs.Readers.{Cause.cannot_follow, Outcome.found, Outcome.refused_at, read_leaf}
 use Rattle.tree.specs.Holds.{Says, node_at}
 use Rattle.tree.specs.declared.nodes.Node.{Node}
 use Rattle.tree.specs.declared.nodes.What.{What}

@@ -1,10 +1,9 @@
 -- Lists: what stays held, how a list goes on, and what its element is.
-use Rattle.std.proofs.Common.{◌≡◌, ℕ, suc, ◌+◌, ◌-◌, ◌<◌, ◌≤◌, Bool, true, false, cond, eqb, ◌≢◌, List, [], ◌∷◌, ◌++◌, length, set, Some, None, Option, sym, refl, ap, ◌∙◌, subst, arith, get_or-set_other, get_or-set_same}
+use Rattle.std.proofs.Common.{◌≡◌, ℕ, suc, ◌-◌, ◌<◌, ◌≤◌, Bool, true, false, cond, eqb, ◌≢◌, List, [], ◌++◌, length, set, Some, None, Option, sym, refl, ap, ◌∙◌, subst, arith, get_or-set_other, get_or-set_same}
 use mathlib.Core.Option.{some}
 use Rattle.std.proofs.lemmas.Bool.{eqb-true}
 use Rattle.domain.specs.declared.Domain.{Domain}
 use Rattle.fault.specs.declared.rules.Fault.{Fault}
-use Rattle.fault.specs.declared.rules.Rule.{Rule}
 use Rattle.words.specs.declared.tokens.Word.TheVariants.{Program, End, Table, If, Then, Else, While, Do, Read, Write, Join, Not, Project, Select, Exists}
 use Rattle.words.specs.declared.tokens.Word.TheVariants.{All, Update, Extend, Rename}
 use Rattle.words.specs.declared.tokens.Sign.TheVariants.{LeftParenthesis, RightParenthesis, LeftBracket, RightBracket, LeftBrace, RightBrace, Semicolon}
@@ -12,18 +11,18 @@ use Rattle.words.specs.declared.tokens.Sign.TheVariants.{Comma, Assign}
 use Rattle.words.specs.Tokens.{Bytes, Place, Terminal, Token, Token.◌at◌, Terminal.word, Terminal.sign, Terminal.domain, Terminal.logic, Terminal.comparison}
 use Rattle.words.specs.Tokens.{Terminal.sum, Terminal.product, Terminal.truth, Terminal.integer, Terminal.string, Terminal.name, Terminal.broken}
 use Rattle.grammar.specs.Tree.{Name, AtomicType, Name.named, AtomicType.typed}
-use Rattle.grammar.specs.Parts.{Part, Level, Turn, Turn.stop, Turn.take_operator, Turn.take_join, Leaf, Leaf.name_leaf, Leaf.type_leaf, Leaf.constant_leaf, Operator.commas, turn_if, turn_at, level_after, between_in, code_in, combine}
-use Rattle.grammar.specs.Parts.{name_part, type_part, append_parts, attribute_declaration, tuple_constant, place_part, left_parenthesis, right_parenthesis, code_of}
+use Rattle.grammar.specs.Parts.{Part, Level, Turn.stop, Turn.take_operator, Leaf.name_leaf, Leaf.type_leaf, Leaf.constant_leaf, Operator.commas, turn_if, turn_at, level_after, between_in, code_in, combine}
+use Rattle.grammar.specs.Parts.{name_part, type_part, attribute_declaration, tuple_constant, place_part, left_parenthesis, right_parenthesis, code_of}
 use Rattle.grammar.specs.Parts.{Level.statement_level, Level.name_level, Level.type_level, Level.constant_level, Level.attribute_level, Level.tuple_level}
 use Rattle.grammar.specs.Parts.{Level.logic_level, Level.comparison_level, Level.sum_level, Level.product_level, Level.compared_level}
 use Rattle.grammar.specs.Promise.{any_token}
-use Rattle.grammar.specs.Readers.{Cause.cannot_follow, Outcome, Outcome.found as read, Outcome.refused_at, Reader, and_then, take_turn, rest, Shorter, read_leaf, read_attribute, read_tuple, brackets_at, expect_token, expect_if, read_level}
+use Rattle.grammar.specs.Readers.{Outcome, Outcome.found as read, and_then, take_turn, rest, Shorter, read_leaf, read_attribute, read_tuple, brackets_at, expect_token, expect_if, read_level}
 use Rattle.grammar.proofs.Fuel.{rest_nil, rest_cons, level_is, leaf_shorter, attribute_shorter, tuple_shorter, bracket_shorter}
 use Rattle.tree.specs.Holds.{Says, node_at, said, Holder, Chained, HoldsName, HoldsType, HoldsConstant, HoldsAttribute, HoldsTuple, type_at}
 use Rattle.tree.specs.Kept.{Below, Beyond}
 use Rattle.tree.specs.declared.nodes.Node.{Node}
 use Rattle.tree.specs.declared.nodes.What.TheVariants as what
-use Rattle.tree.proofs.Stable.{Agree, Firm, Ordered, Stable, chain_order, chain_stable, chain_append, firm_agree}
+use Rattle.tree.proofs.Stable.{Agree, Firm, Ordered, Stable, chain_order, chain_stable, chain_append}
 use Rattle.tree.proofs.Stable.{name_order, type_order, constant_order, attribute_order, tuple_order, name_stable, type_stable, constant_stable, attribute_stable, tuple_stable}
 use Rattle.tree.proofs.Stable.{expression_stable, statements_stable}
 use Rattle.tree.proofs.Grown.{below_firm, below_agree}
@@ -31,7 +30,7 @@ use Rattle.phrases.specs.declared.sorts.Listed.{Listed}
 use Rattle.phrases.specs.declared.sorts.Listed.TheVariants as listed
 use Rattle.phrases.specs.Held.{Held, ListHeld}
 use Rattle.phrases.specs.Sorts.{level_of, item_reader, relinked}
-use Rattle.phrases.specs.States.{before, code_ahead, broken_in, fault_at, refused_by, Halts}
+use Rattle.phrases.specs.States.{before, code_ahead, broken_in, refused_by, Halts}
 use Rattle.phrases.proofs.Steps.{refused_ahead, refused_first, refused_then}
 
 -- a list stays where its entries stay

@@ -1,9 +1,8 @@
 -- A part whose last node was just put.
-use Rattle.std.proofs.Common.{◌≡◌, ℕ, suc, ◌+◌, ◌<◌, ◌≤◌, Bool, true, cond, leb, List, [], ◌∷◌, length, take, drop, set, pos, IfOk, Some, None, Ok, Err, Option, Result, sym, refl, ap, ◌∙◌, subst, arith}
+use Rattle.std.proofs.Common.{◌≡◌, ℕ, suc, ◌+◌, ◌<◌, ◌≤◌, List, length, set, IfOk, Ok, Err, Result, sym, ap, ◌∙◌, subst, arith}
 use mathlib.Core.Option.{some}
-use Rattle.std.proofs.lemmas.Bool.{le-leb}
 use Rattle.fault.specs.declared.rules.Fault.{Fault}
-use Rattle.words.specs.Tokens.{Bytes, Place, Token}
+use Rattle.words.specs.Tokens.{Bytes, Place}
 use Rattle.words.specs.Lexing.{end_of}
 use Rattle.grammar.specs.Parts.{Part}
 use Rattle.grammar.specs.Readers.{Outcome, Outcome.found}

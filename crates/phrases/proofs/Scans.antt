@@ -1,5 +1,5 @@
 -- What the scanner finds: a token takes the bytes that it pays for, and tells of its place; the end is the text's.
-use Rattle.std.proofs.Common.{◌≡◌, ℕ, zero, suc, ◌+◌, ◌-◌, ◌<◌, ◌≤◌, Bool, true, false, cond, ◌&&◌, eqb, leb, List, [], ◌∷◌, length, get_or, take, drop, Some, None, codes, Option, sym, refl, ap, ◌∙◌, subst, arith}
+use Rattle.std.proofs.Common.{◌≡◌, ℕ, zero, suc, ◌+◌, ◌-◌, ◌<◌, ◌≤◌, Bool, true, false, cond, ◌&&◌, eqb, leb, [], ◌∷◌, length, get_or, take, drop, Some, None, Option, sym, refl, ap, ◌∙◌, subst, arith}
 use Rattle.std.proofs.lemmas.List.{length-drop, length-take-le, drop-drop}
 use Rattle.std.proofs.lemmas.Bool.{leb-true, eqb-true}
 use Rattle.std.proofs.lemmas.Bool.Decides.{nat_tests}
@@ -14,8 +14,8 @@ use Rattle.words.specs.Letters.{letter, digit, name_byte, plain, feed, blank, ru
 use Rattle.words.specs.Lexing.{Spot, place, further, skipped, Scan, Scan.found, Scan.ended, Scan.faulty, taken, keyword_terminal, symbol_terminal, word_or_name}
 use Rattle.words.specs.Lexing.{name_at, integer_at, string_at, symbol_scan, sign_at, token_by, token_at, next, followed, tokens_in, tokens_from, end_from, end_of}
 use Rattle.words.specs.Numbers.{value_of}
-use Rattle.words.specs.Spelling.{means, statement_word, operator_word, value_word, or_else, keyword_of, pair_of, single_of, Front, Front.sign_then, Front.no_sign, before, symbol_at}
-use Rattle.words.specs.Tokens.{Bytes, Place, Terminal, Token, Token.◌at◌}
+use Rattle.words.specs.Spelling.{means, statement_word, operator_word, value_word, or_else, keyword_of, pair_of, single_of, Front.sign_then, Front.no_sign, before}
+use Rattle.words.specs.Tokens.{Bytes, Place, Terminal, Token.◌at◌}
 use Rattle.words.specs.Tokens.{Terminal.word, Terminal.sign, Terminal.domain, Terminal.logic, Terminal.comparison, Terminal.sum, Terminal.product}
 use Rattle.words.specs.Tokens.{Terminal.truth, Terminal.integer, Terminal.string, Terminal.name, Terminal.broken}
 use Rattle.words.specs.declared.tokens.Word.{Word}

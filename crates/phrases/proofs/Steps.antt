@@ -1,6 +1,6 @@
 -- One token on, and what a refused reading hands on.
-use Rattle.std.proofs.Common.{◌≡◌, ℕ, suc, ◌+◌, ◌<◌, ◌≤◌, Bool, true, false, eqb, List, [], ◌∷◌, length, IfOk, Some, None, Ok, Err, Option, Result, sym, refl, ap, ◌∙◌, subst, arith}
-use mathlib.Core.Option.{none, some}
+use Rattle.std.proofs.Common.{◌≡◌, ℕ, suc, ◌+◌, ◌<◌, ◌≤◌, true, false, eqb, List, [], ◌∷◌, length, IfOk, Some, None, Ok, Err, Option, Result, sym, refl, ap, ◌∙◌, subst, arith}
+use mathlib.Core.Option.{some}
 use Rattle.std.proofs.lemmas.Bool.{eqb-true}
 use Rattle.fault.specs.declared.rules.Fault.{Fault}
 use Rattle.fault.specs.declared.rules.Rule.{Rule}
@@ -11,16 +11,16 @@ use Rattle.words.specs.declared.tokens.Sign.TheVariants.{LeftParenthesis, RightP
 use Rattle.words.specs.declared.tokens.Sign.TheVariants.{Comma, Assign}
 use Rattle.words.specs.declared.tokens.Token.{Token as Borrowed}
 use Rattle.words.specs.declared.tokens.Token.TheVariants as borrowed
-use Rattle.words.specs.Lexing.{Spot, Scan, Scan.found, Scan.ended, Scan.faulty, next, followed, end_of, place}
+use Rattle.words.specs.Lexing.{Spot, Scan.faulty, next, followed, end_of}
 use Rattle.words.specs.Tokens.{Bytes, Place, Terminal, Token, Token.◌at◌, Terminal.word, Terminal.sign, Terminal.domain, Terminal.logic, Terminal.comparison}
 use Rattle.words.specs.Tokens.{Terminal.sum, Terminal.product, Terminal.truth, Terminal.integer, Terminal.string, Terminal.name, Terminal.broken}
-use Rattle.words.specs.Views.{heard, spoken, standing, weight}
-use Rattle.grammar.specs.Parts.{Part, same_as, origin, place_part, code_in}
-use Rattle.grammar.specs.Promise.{place_in, refusal_in}
-use Rattle.grammar.specs.Readers.{Reader, Cause, Cause.cannot_follow, Cause.too_deep, Outcome, Outcome.found as read, Outcome.refused_at, and_then, expect_if, expect_token, told}
+use Rattle.words.specs.Views.{heard, spoken, weight}
+use Rattle.grammar.specs.Parts.{Part, origin, place_part, code_in}
+use Rattle.grammar.specs.Promise.{place_in}
+use Rattle.grammar.specs.Readers.{Reader, Cause.cannot_follow, Cause.too_deep, Outcome, Outcome.found as read, Outcome.refused_at, and_then, expect_token, told}
 use Rattle.phrases.specs.declared.parsers.Parser.{Parser}
-use Rattle.phrases.specs.Places.{pays_ahead, pays, following, Lies, TellsAhead}
-use Rattle.phrases.specs.States.{before, behind, tokens_ahead, ahead_at, code_ahead, Grounded, fault_at, broken_at, broken_in, refused_by, Halts, opened, Opened, Stepped, Expected, Answers, Holding}
+use Rattle.phrases.specs.Places.{pays_ahead, following, Lies, TellsAhead}
+use Rattle.phrases.specs.States.{before, behind, tokens_ahead, ahead_at, code_ahead, Grounded, fault_at, broken_in, refused_by, Halts, opened, Opened, Stepped, Expected, Answers, Holding}
 use Rattle.phrases.proofs.Scans.{Sees, next_sees, following_next, pays_some}
 use Rattle.tree.specs.declared.nodes.Node.{Node}
 

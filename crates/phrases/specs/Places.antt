@@ -1,10 +1,10 @@
 -- Where a scanner stands in a text, and what a token there stands for.
-use Rattle.std.specs.Prelude.{◌≡◌, ℕ, ◌+◌, ◌≤◌, List, [], ◌∷◌, length, take, drop, Some, None, Option}
+use Rattle.std.specs.Prelude.{◌≡◌, ℕ, ◌+◌, ◌≤◌, List, length, take, drop, Some, None, Option}
 use Rattle.fault.specs.Limits.{script_bytes, name_bytes, string_bytes, integer_max}
 use Rattle.words.specs.declared.tokens.Word.{Word}
 use Rattle.words.specs.declared.tokens.Word.TheVariants.{Program, End, Table, If, Then, Else, While, Do, Read, Write, Join, Not, Project, Select, Exists}
 use Rattle.words.specs.declared.tokens.Word.TheVariants.{All, Update, Extend, Rename}
-use Rattle.words.specs.Tokens.{Bytes, Place, Terminal, Token, Token.◌at◌, Terminal.word, Terminal.sign, Terminal.domain, Terminal.logic, Terminal.comparison}
+use Rattle.words.specs.Tokens.{Bytes, Place, Terminal, Token, Terminal.word, Terminal.sign, Terminal.domain, Terminal.logic, Terminal.comparison}
 use Rattle.words.specs.Tokens.{Terminal.sum, Terminal.product, Terminal.truth, Terminal.integer, Terminal.string, Terminal.name, Terminal.broken}
 use Rattle.words.specs.Numbers.{value_of}
 use Rattle.words.specs.Lexing.{Spot, tokens_from, end_from, end_of}

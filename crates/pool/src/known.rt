@@ -11,5 +11,5 @@ pub struct Known<'a> {
     pub(crate) pool: &'a [u8],
     pub(crate) entries: &'a [Span],
     ghost some: { length literals.now ≤ limits.literals },
-    ghost few: { length entries.now ≤ limits.read-strings },
+    ghost few: { length entries.now ≤ limits.read_strings },
 }

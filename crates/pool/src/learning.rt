@@ -35,7 +35,7 @@ impl<'a> Known<'a> {
         ensures script { result.script.now ≡ script.now }
         ensures literals { result.literals.now ≡ take limits.literals literals.now }
         ensures pool { result.pool.now ≡ pool.now }
-        ensures entries { result.entries.now ≡ take limits.read-strings entries.now }
+        ensures entries { result.entries.now ≡ take limits.read_strings entries.now }
     {
         Known {
             script,
@@ -48,9 +48,9 @@ impl<'a> Known<'a> {
 
 // The number of a string: among the known ones, then among the new ones of the text.
 fn number_among(known: Known<'_>, text: &[u8], fresh: &[Span], wanted: &[u8]) -> Option<usize>
-    requires { length fresh.now ≤ limits.read-strings }
+    requires { length fresh.now ≤ limits.read_strings }
     ensures value { result ≡ position (numbered known.entry ++ parts text.now fresh.now) wanted.now }
-    ensures small { IfSome result (λ n. n < 1 + limits.literals + limits.read-strings + limits.read-strings) }
+    ensures small { IfSome result (λ n. n < 1 + limits.literals + limits.read_strings + limits.read_strings) }
 {
     if wanted.is_empty() {
         return Some(0);

@@ -14,14 +14,14 @@ height rank.Product = 17
 abbrev pub decreases-assigned : goal.decreases-assigned
 decreases-assigned l = 32 * worth l.parser.now + 8
 
-abbrev pub decreases-bool-term : goal.decreases-bool-term
-decreases-bool-term l = 32 * worth l.parser.now + 25
+abbrev pub decreases-bool_term : goal.decreases-bool_term
+decreases-bool_term l = 32 * worth l.parser.now + 25
 
 abbrev pub decreases-bracket : goal.decreases-bracket
 decreases-bracket l = 32 * worth l.parser.now + 4
 
-abbrev pub decreases-comp-term : goal.decreases-comp-term
-decreases-comp-term l = 32 * worth l.parser.now + 22
+abbrev pub decreases-comp_term : goal.decreases-comp_term
+decreases-comp_term l = 32 * worth l.parser.now + 22
 
 abbrev pub decreases-enclosed : goal.decreases-enclosed
 decreases-enclosed l = 32 * worth l.parser.now + 2
@@ -38,8 +38,8 @@ decreases-factor l = 32 * worth l.parser.now + 16
 abbrev pub decreases-inside : goal.decreases-inside
 decreases-inside l = 32 * worth l.parser.now + 30
 
-abbrev pub decreases-low-term : goal.decreases-low-term
-decreases-low-term l = 32 * worth l.parser.now + 19
+abbrev pub decreases-low_term : goal.decreases-low_term
+decreases-low_term l = 32 * worth l.parser.now + 19
 
 abbrev pub decreases-minus : goal.decreases-minus
 decreases-minus l = 32 * worth l.parser.now + 2

@@ -11,20 +11,20 @@ use Rattle.phrases.proofs.Puts.{done_put, numbers_put, to_refusal}
 use Rattle.phrases.proofs.Steps.{cases_err, answers_err, stepped_ok, stepped_broken, found_broken, refuses}
 use Rattle.phrases.proofs.leaves.leaf.Goals as goal
 
-pub returns-in_err-advance : goal.returns-in_err-advance
-returns-in_err-advance c =
+pub returns-in_err-advance-in-Some : goal.returns-in_err-advance-in-Some
+returns-in_err-advance-in-Some c =
     let y = err_from_is_err_and c.from_residual.result c.from_residual.ensures.1 in
     record {
       numbers = cases_err _ _ _ y.1;
       spare = cases_err _ _ _ y.1;
       answer = λ text g.
           let h = leaf_found text _ _ _ _ _ g.lies.small g.tells c.in-Some.ensures in
-          answers_err _ _ _ _ _ _ _ _ _ _ _ y.1 y.2 (found_broken _ _ _ _ _ h.1 (stepped_broken _ _ _ _ (c.in_err-advance.ensures.step text g)));
+          answers_err _ _ _ _ _ _ _ _ _ _ _ y.1 y.2 (found_broken _ _ _ _ _ h.1 (stepped_broken _ _ _ _ (c.in_err-advance-in-Some.ensures.step text g)));
     }
 
-pub returns-in_ok-advance : goal.returns-in_ok-advance
-returns-in_ok-advance c =
-    let n = c.in_ok-advance.ensures in
+pub returns-in_ok-advance-in-Some : goal.returns-in_ok-advance-in-Some
+returns-in_ok-advance-in-Some c =
+    let n = c.in_ok-advance-in-Some.ensures in
     let one = leaf_some (leaf_of c.args.leaf) in
     let some = leaf_pays_lem (leaf_of c.args.leaf) (spoken c.args.parser.now.ahead.token) c.args.parser.now.ahead.byte _ c.in-Some.ensures in
     record {

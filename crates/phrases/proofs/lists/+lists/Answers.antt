@@ -1,15 +1,15 @@
-use Rattle.std.proofs.Common.{◌-◌, sym, refl, ap, ◌∙◌, subst, arith}
+use Rattle.std.proofs.Common.{◌-◌, sym, refl, ◌∙◌, subst, arith}
 use Rattle.std.proofs.lemmas.Result.{err_from_is_err_and}
 use Rattle.words.specs.Views.{spoken}
 use Rattle.words.specs.Lexing.{end_of}
 use Rattle.words.specs.Tokens.{Terminal.sign}
-use Rattle.words.specs.declared.tokens.Sign.TheVariants.{Comma, LeftParenthesis}
+use Rattle.words.specs.declared.tokens.Sign.TheVariants.{Comma}
 use Rattle.grammar.specs.Parts.{combine, Operator.commas, tuple_constant, place_part, Level.constant_level}
 use Rattle.phrases.specs.Held.{Held}
 use Rattle.phrases.specs.Sorts.{item_reader, level_of}
 use Rattle.phrases.specs.States.{ahead_at, behind, tokens_ahead}
 use Rattle.phrases.proofs.ListSteps.{tuple_first, tuple_second, tuple_third, tuple_found, tuple_held, list_first, list_found, list_stops, more_halts, more_first, more_found, held_link, held_some, link_below, link_beyond}
-use Rattle.phrases.proofs.Puts.{done_put, numbers_put, answered, answer, refusal, answers_later, numbers_on, numbers_later, numbers_on_later}
+use Rattle.phrases.proofs.Puts.{done_put, numbers_put, answered, answer, refusal, answers_later, numbers_later, numbers_on_later}
 use Rattle.phrases.proofs.Steps.{refused_at_lem, read_at, cases_err, answers_err, expected_ok, expected_broken, stepped_ok, stepped_broken, code_pays}
 use Rattle.tree.proofs.Grown.{below_then, beyond_then}
 use Rattle.phrases.proofs.lists.+lists.Goals as goal

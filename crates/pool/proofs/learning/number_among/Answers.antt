@@ -10,30 +10,30 @@ returns-in-Some c =
     let b = parts k.pool.now k.entries.now in
     let f = parts c.args.text.now c.args.fresh.now in
     record {
-      value = in_first a b f c.args.wanted.now (not_empty c.args.wanted.now (sym c.is-empty.ensures ∙ c.if-is-empty.false)) _ c.in-Some.ensures.value;
+      value = in_first a b f c.args.wanted.now (not_empty c.args.wanted.now (sym c.is_empty.ensures ∙ c.if-is_empty.false)) _ c.in-Some.ensures.value;
       small = omega (arith, c.in-Some.ensures.within);
     }
 
-pub returns-in-Some-find-in : goal.returns-in-Some-find-in
-returns-in-Some-find-in c =
+pub returns-in-Some-find_in : goal.returns-in-Some-find_in
+returns-in-Some-find_in c =
     let k = c.args.known in
     let a = parts k.script.now k.literals.now in
     let b = parts k.pool.now k.entries.now in
     let f = parts c.args.text.now c.args.fresh.now in
     record {
-      value = in_second a b f c.args.wanted.now (not_empty c.args.wanted.now (sym c.is-empty.ensures ∙ c.if-is-empty.false)) _ _ (parts_length k.script.now k.literals.now) c.in-default.ensures.value c.in-Some-find-in.ensures.value;
-      small = omega (arith, c.in-Some-find-in.ensures.within);
+      value = in_second a b f c.args.wanted.now (not_empty c.args.wanted.now (sym c.is_empty.ensures ∙ c.if-is_empty.false)) _ _ (parts_length k.script.now k.literals.now) c.in_default.ensures.value c.in-Some-find_in.ensures.value;
+      small = omega (arith, c.in-Some-find_in.ensures.within);
     }
 
-pub returns-in-Some-find-in-2 : goal.returns-in-Some-find-in-2
-returns-in-Some-find-in-2 c =
+pub returns-in-Some-find_in-2 : goal.returns-in-Some-find_in-2
+returns-in-Some-find_in-2 c =
     let k = c.args.known in
     let a = parts k.script.now k.literals.now in
     let b = parts k.pool.now k.entries.now in
     let f = parts c.args.text.now c.args.fresh.now in
     record {
-      value = in_third a b f c.args.wanted.now (not_empty c.args.wanted.now (sym c.is-empty.ensures ∙ c.if-is-empty.false)) _ _ _ (parts_length k.script.now k.literals.now) (parts_length k.pool.now k.entries.now) c.in-default.ensures.value c.in-default-find-in.ensures.value c.in-Some-find-in-2.ensures.value;
-      small = omega (arith, k.some, k.few, c.requires, c.in-Some-find-in-2.ensures.within);
+      value = in_third a b f c.args.wanted.now (not_empty c.args.wanted.now (sym c.is_empty.ensures ∙ c.if-is_empty.false)) _ _ _ (parts_length k.script.now k.literals.now) (parts_length k.pool.now k.entries.now) c.in_default.ensures.value c.in_default-find_in.ensures.value c.in-Some-find_in-2.ensures.value;
+      small = omega (arith, k.some, k.few, c.requires, c.in-Some-find_in-2.ensures.within);
     }
 
 pub returns-in-None : goal.returns-in-None
@@ -43,6 +43,6 @@ returns-in-None c =
     let b = parts k.pool.now k.entries.now in
     let f = parts c.args.text.now c.args.fresh.now in
     record {
-      value = in_none a b f c.args.wanted.now (not_empty c.args.wanted.now (sym c.is-empty.ensures ∙ c.if-is-empty.false)) c.in-default.ensures.value c.in-default-find-in.ensures.value c.in-None.ensures.value;
+      value = in_none a b f c.args.wanted.now (not_empty c.args.wanted.now (sym c.is_empty.ensures ∙ c.if-is_empty.false)) c.in_default.ensures.value c.in_default-find_in.ensures.value c.in-None.ensures.value;
       small = tt;
     }

@@ -10,11 +10,11 @@ use Rattle.pool.proofs.learning.row_of.Goals as goal
 
 pub loop-i-preserved : goal.loop-i-preserved
 loop-i-preserved c =
-    let fits : SFits w64 c.cell-of.result = record { sfits = c.cell-of.type-inv } in
+    let fits : SFits w64 c.cell_of.result = record { sfits = c.cell_of.type_inv } in
     let all : length c.args.cells.now ≡ columns = search rules in (
       length-set c.loop-i.row c.loop-i.i _ ∙ c.loop-i.invariant.0,
       row_more (λ x. cell_of (numbered c.args.known ++ (learned_of c.args.text.now c.args.fresh.now).fresh) (value_in c.args.text.now x)) c.loop-i.row c.args.cells.now c.loop-i.i _ _ _
-          (omega (arith, c.loop-i.invariant.0, c.loop-i-test.true)) (omega (arith, all, c.loop-i-test.true)) c.loop-i.invariant.1 (to_z-of_z w64 c.cell-of.result fits) c.cell-of.ensures,
+          (omega (arith, c.loop-i.invariant.0, c.loop-i-test.true)) (omega (arith, all, c.loop-i-test.true)) c.loop-i.invariant.1 (to_z-of_z w64 c.cell_of.result fits) c.cell_of.ensures,
     )
 
 pub returns : goal.returns

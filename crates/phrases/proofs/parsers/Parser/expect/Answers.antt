@@ -1,5 +1,4 @@
-use Rattle.std.proofs.Common.{sym, refl, ◌∙◌, arith}
-use Rattle.std.proofs.lemmas.Bool.Decides.{nat_tests}
+use Rattle.std.proofs.Common.{sym, refl, ◌∙◌}
 use Rattle.phrases.proofs.Steps.{expected_there, expected_else, paid_less, code_pays}
 use Rattle.words.specs.Views.{spoken}
 use Rattle.phrases.specs.Sorts.{wanted_of}
