@@ -10,20 +10,20 @@ use Rattle.take.proofs.Takes.{starts}
 use Rattle.take.proofs.Learns.{learnt_all, learnt_none}
 use Rattle.take.proofs.learning.learn_text.Goals as goal
 
-pub learn-rows-requires : goal.learn-rows-requires
-learn-rows-requires c = sym (c.in-ok-heading.ensures.same ∙ (c.new-reader.ensures.text ∙ take_all text_bytes c.args.text.now c.requires))
+pub learn_rows-requires : goal.learn_rows-requires
+learn_rows-requires c = sym (c.in_ok-heading.ensures.same ∙ (c.new-reader.ensures.text ∙ take_all text_bytes c.args.text.now c.requires))
 
 pub returns : goal.returns
 returns c =
     let text = c.args.text.now in
     let start = starts c.new-reader.result text c.requires c.new-reader.ensures.text c.new-reader.ensures.start in
-    let whole = c.learn-rows.ensures.same ∙ (c.in-ok-heading.ensures.same ∙ (c.new-reader.ensures.text ∙ take_all text_bytes text c.requires)) in
-    learnt_all c.args.script.now (held c.args.schema.now) text (rest c.new-reader.result) (numbered c.args.known) (learned_of text c.args.fresh.now) (learned_of text c.learn-rows.new.fresh) c.learn-rows.new.reader c.learn-rows.result _ _ start whole c.in-ok-heading.ensures.value c.learn-rows.ensures.value c.learn-rows.ensures.place
+    let whole = c.learn_rows.ensures.same ∙ (c.in_ok-heading.ensures.same ∙ (c.new-reader.ensures.text ∙ take_all text_bytes text c.requires)) in
+    learnt_all c.args.script.now (held c.args.schema.now) text (rest c.new-reader.result) (numbered c.args.known) (learned_of text c.args.fresh.now) (learned_of text c.learn_rows.new.fresh) c.learn_rows.new.reader c.learn_rows.result _ _ start whole c.in_ok-heading.ensures.value c.learn_rows.ensures.value c.learn_rows.ensures.place
 
-pub returns-in-err-heading : goal.returns-in-err-heading
-returns-in-err-heading c =
+pub returns-in_err-heading : goal.returns-in_err-heading
+returns-in_err-heading c =
     let text = c.args.text.now in
-    let p = err_from_is_err_and c.from-residual.result c.from-residual.ensures.1 in
+    let p = err_from_is_err_and c.from_residual.result c.from_residual.ensures.1 in
     let start = starts c.new-reader.result text c.requires c.new-reader.ensures.text c.new-reader.ensures.start in
-    let whole = c.in-err-heading.ensures.same ∙ (c.new-reader.ensures.text ∙ take_all text_bytes text c.requires) in
-    learnt_none c.args.script.now (held c.args.schema.now) text (rest c.new-reader.result) (numbered c.args.known) (learned_of text c.args.fresh.now) _ c.heading.new.self c.from-residual.result _ p start whole c.in-err-heading.ensures.value c.in-err-heading.ensures.place
+    let whole = c.in_err-heading.ensures.same ∙ (c.new-reader.ensures.text ∙ take_all text_bytes text c.requires) in
+    learnt_none c.args.script.now (held c.args.schema.now) text (rest c.new-reader.result) (numbered c.args.known) (learned_of text c.args.fresh.now) _ c.heading.new.self c.from_residual.result _ p start whole c.in_err-heading.ensures.value c.in_err-heading.ensures.place
