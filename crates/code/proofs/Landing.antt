@@ -1,5 +1,5 @@
 -- Jumps land: the code of each scheme keeps to itself, and the code of a script is such code and HALT.
-use Rattle.std.proofs.Common.{◌≡◌, ℕ, zero, suc, ◌+◌, ◌-◌, ◌≤◌, List, [], ◌∷◌, ◌++◌, map, length, ℤ, pos, negsuc, neg_ℤ, sym, refl, ap, ◌∙◌, subst, arith}
+use Rattle.std.proofs.Common.{◌≡◌, ℕ, zero, suc, ◌+◌, ◌-◌, ◌≤◌, List, [], ◌∷◌, ◌++◌, map, length, pos, neg_ℤ, sym, subst, arith}
 use mathlib.Core.Option.{Option, none, some}
 use Rattle.std.proofs.lemmas.List.{length-append}
 use Rattle.grammar.specs.Tree.{Constant, Constant.integer_constant, Constant.string_constant, Constant.truth_constant, Tuple, Tuple.tuple_of}
@@ -7,7 +7,6 @@ use Rattle.plan.specs.Plan as plan
 use Rattle.plan.specs.Plan.{Term, Kept, type_of, Action, Actions, Actions.◌then◌, Body}
 use Rattle.schema.specs.Columns.{Column}
 use Rattle.schema.specs.Kinds.{ValueType, ValueType.atom, ValueType.table}
-use Rattle.domain.specs.declared.Domain.{Domain}
 use Rattle.domain.specs.declared.Domain.TheVariants.{Integer, String, Boolean}
 use Rattle.words.specs.Tokens.{Bytes, Place}
 use Rattle.words.specs.declared.tokens.Comparison.{Comparison}
@@ -18,9 +17,9 @@ use Rattle.words.specs.declared.tokens.Product.{Product}
 use Rattle.words.specs.declared.tokens.Product.TheVariants.{Times, Divide}
 use Rattle.words.specs.declared.tokens.Sum.{Sum}
 use Rattle.words.specs.declared.tokens.Sum.TheVariants.{Plus, Minus}
-use Rattle.code.specs.Generation.{Code, strings_of, bit, comparing, summing, multiplying, connecting, bracket, keeping, new_variable, new_variables, ending, loading, cell, cells, generated, reading, printing, looping, generated_action, generated_actions, generated_body, code_of}
+use Rattle.code.specs.Generation.{Code, strings_of, comparing, summing, multiplying, connecting, bracket, keeping, new_variables, ending, loading, cell, cells, generated, reading, printing, looping, generated_action, generated_actions, generated_body, code_of}
 use Rattle.code.specs.Instructions.{Operation, Instruction, Instruction.◌on◌}
-use Rattle.code.specs.Instructions.{Operation.HALT, Operation.NEWATOM, Operation.NEWTAB, Operation.POP, Operation.LDINT, Operation.LDSTR, Operation.LDTAB, Operation.IATTR, Operation.SATTR, Operation.ENDTAB, Operation.LOB, Operation.STO, Operation.LAT, Operation.SKIP, Operation.SKIPF, Operation.EQU, Operation.NEQ, Operation.IGT, Operation.IGE, Operation.ILT, Operation.ILE, Operation.SGT, Operation.SGE, Operation.SLT, Operation.SLE, Operation.PLUS, Operation.MINUS, Operation.TIMES, Operation.DIV, Operation.UMI, Operation.NEG, Operation.JOIN, Operation.ENDJOIN, Operation.SEL, Operation.ENDSEL, Operation.EXS, Operation.ENDEXS, Operation.ALL, Operation.ENDALL, Operation.ENDUPD, Operation.ENDEXT, Operation.UPD, Operation.EXT, Operation.PROJ, Operation.ATTR, Operation.ENDPROJ, Operation.GET, Operation.FGET, Operation.PRINT, Operation.FPRINT}
+use Rattle.code.specs.Instructions.{Operation.HALT, Operation.NEWATOM, Operation.NEWTAB, Operation.POP, Operation.LDINT, Operation.LDTAB, Operation.ENDTAB, Operation.LOB, Operation.STO, Operation.LAT, Operation.SKIP, Operation.SKIPF, Operation.UMI, Operation.NEG, Operation.JOIN, Operation.ENDJOIN, Operation.SEL, Operation.ENDSEL, Operation.EXS, Operation.ENDEXS, Operation.ALL, Operation.ENDALL, Operation.ENDUPD, Operation.ENDEXT, Operation.UPD, Operation.EXT, Operation.PROJ, Operation.ATTR, Operation.ENDPROJ, Operation.GET, Operation.FGET, Operation.PRINT, Operation.FPRINT}
 use Rattle.code.specs.Laws.{Jumps, Lands, AllLand, JumpsLand}
 
 -- code that keeps to itself: wherever it stands, it leads no further than right behind it

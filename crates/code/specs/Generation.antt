@@ -2,7 +2,6 @@
 use Rattle.std.specs.Prelude.{ℕ, zero, suc, ◌+◌, Bool, true, false, cond, List, [], ◌∷◌, ◌++◌, map, length, ℤ, pos, neg_ℤ}
 use Rattle.std.proofs.Math.Option.{Option, none, some}
 use Rattle.std.specs.Str.{bytes_eq}
-use Rattle.domain.specs.declared.Domain.{Domain}
 use Rattle.domain.specs.declared.Domain.TheVariants.{Integer, String, Boolean}
 use Rattle.grammar.specs.Tree.{Constant, Constant.integer_constant, Constant.string_constant, Constant.truth_constant, Tuple, Tuple.tuple_of}
 use Rattle.plan.specs.Plan as plan

@@ -1,6 +1,6 @@
 -- The fifty instructions. Sizes and offsets count cells, and every domain takes one.
 -- Lengths of jumps are relative to the instruction itself; a gap is the length of a bracket's code.
-use Rattle.std.specs.Prelude.{ℕ, List, ℤ}
+use Rattle.std.specs.Prelude.{ℕ, ℤ}
 use Rattle.schema.specs.Kinds.{ValueType}
 use Rattle.words.specs.Tokens.{Place}
 

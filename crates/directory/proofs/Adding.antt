@@ -1,9 +1,9 @@
 -- Adding a row to the last table of a directory over a run of cells: what the code of `add` has in hand, and what it comes to.
-use Rattle.std.proofs.Common.{◌≡◌, ℕ, ◌+◌, ◌-◌, ◌*◌, ◌^◌, ◌<◌, ◌≤◌, Bool, true, false, List, ◌++◌, length, get_or, take, drop, set, ℤ, Ok, Err, sym, refl, ap, ◌∙◌, ap₂, le-mul_of_pos_right, arith}
+use Rattle.std.proofs.Common.{◌≡◌, ℕ, ◌+◌, ◌-◌, ◌*◌, ◌^◌, ◌<◌, ◌≤◌, Bool, true, false, List, ◌++◌, length, get_or, take, drop, set, ℤ, Ok, Err, ap, ◌∙◌, ap₂, le-mul_of_pos_right, arith}
 use Rattle.std.proofs.lemmas.List.{length-take-le}
 use Rattle.fault.specs.declared.rules.Rule.TheVariants.{NoCellsLeft}
 use Rattle.fault.specs.Limits.{columns}
-use Rattle.store.specs.Meaning.{Row, has, repeats, last_table, cells_left, refused_by, add_reply, add_after}
+use Rattle.store.specs.Meaning.{Row, has, repeats, refused_by, add_reply, add_after}
 use Rattle.store.proofs.Cases.{grown, add_repeat, add_full, add_new}
 use Rattle.directory.specs.Run.{chunk, extent_of, extent, decode, laid}
 use Rattle.directory.specs.declared.entry.Entry.{Entry}

@@ -1,14 +1,13 @@
 -- The last table of a directory over a run of cells, and one row more in it.
-use Rattle.std.proofs.Common.{◌≡◌, ℕ, zero, suc, ◌+◌, ◌-◌, ◌*◌, ◌<◌, ◌≤◌, Bool, true, false, ◌&&◌, leb, List, [], ◌∷◌, ◌++◌, length, get_or, take, drop, set, ℤ, sym, refl, ap, ◌∙◌, subst, ap₂, add-zero, suc-mul, add-mul, one-mul, add-one, arith}
-use Rattle.std.proofs.lemmas.Bool.{and_parts, leb-true}
+use Rattle.std.proofs.Common.{◌≡◌, ℕ, ◌+◌, ◌-◌, ◌*◌, ◌<◌, ◌≤◌, Bool, true, false, List, [], ◌∷◌, ◌++◌, length, get_or, take, drop, set, ℤ, sym, ap, ◌∙◌, ap₂, add-zero, add-mul, one-mul, add-one, arith}
 use Rattle.std.proofs.lemmas.List.{length-append, length-set, length-drop, length-take-le, take_more, take_all, set_at, drop-append-le}
 use Rattle.fault.specs.Limits.{columns}
-use Rattle.store.specs.Meaning.{Row, Table, no_table, last_table, last_place, has, cells_left, repeats}
+use Rattle.store.specs.Meaning.{Row, Table, no_table, last_table, has, cells_left, repeats}
 use Rattle.store.specs.Sound.{sound_table, sound_tables}
 use Rattle.store.proofs.Cases.{grown}
 use Rattle.directory.specs.Run.{chunk, extent_of, extent, table_of, decode, laid}
 use Rattle.directory.specs.declared.entry.Entry.{Entry}
-use Rattle.directory.proofs.Decoding.{decode_append, decode_front, extent_append, length_decode, get_d_decode, chunk_more, table_at, used_decode}
+use Rattle.directory.proofs.Decoding.{decode_append, decode_front, extent_append, length_decode, chunk_more, table_at, used_decode}
 use Rattle.store.proofs.Soundness.{good, sound_at, sound_set, sound_grown}
 use Rattle.directory.proofs.Keeping.{Held}
 

@@ -8,7 +8,7 @@ use mathlib.Core.List.{List, [], ◌∷◌}
 use mathlib.Core.Bool.{Bool, true, false}
 use mathlib.Core.Option.{none, some}
 use lib.ListN.{length, get_or}
-use Rattle.words.specs.Tokens.{Token, Place, Terminal, Token.◌at◌, Terminal.word, Terminal.sign, Terminal.domain, Terminal.logic, Terminal.comparison}
+use Rattle.words.specs.Tokens.{Token, Place, Terminal, Terminal.word, Terminal.sign, Terminal.domain, Terminal.logic, Terminal.comparison}
 use Rattle.words.specs.Tokens.{Terminal.sum, Terminal.product, Terminal.truth, Terminal.integer, Terminal.string, Terminal.name, Terminal.broken}
 use Rattle.grammar.specs.Parts.{Operator, Unary, Part, Level, Between, Leaf, FactorStart, between_of, rank, turn_if, turn_in, turn_at, level_after, name_of}
 use Rattle.grammar.specs.Parts.{type_of, leaf_of, argument_of, factor_start, statement_start, code_of, same_as, end_token, else_token, left_parenthesis}

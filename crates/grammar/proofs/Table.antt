@@ -4,7 +4,7 @@ use mathlib.Core.List.{List, ◌∷◌}
 use mathlib.Core.Path.{◌≡◌}
 use mathlib.Core.Bool.{true}
 use mathlib.Core.Option.{none, some}
-use Rattle.words.specs.Tokens.{Token, Token.◌at◌}
+use Rattle.words.specs.Tokens.{Token}
 use Rattle.grammar.specs.Tree.{Name, AtomicType, VariableType.of_domain, VariableType.of_table}
 use Rattle.grammar.specs.Grammar.{Leave}
 use Rattle.grammar.specs.Parts.{Operator, Unary, Part, Level, Leaf, Argument, turn_at, level_after, leaf_of, argument_of, factor_start, statement_start, same_as}

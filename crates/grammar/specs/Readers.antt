@@ -1,7 +1,7 @@
 -- The grammar as readers: each takes tokens and finds a part and the tokens after it, or refuses at the first token that does not fit.
 use Rattle.std.specs.Prelude.{ℕ, zero, suc, ◌≤◌, List, [], ◌∷◌, Bool, true, false, ◌≡◌, length}
 use Rattle.std.proofs.Math.Option.{Option, none, some}
-use Rattle.words.specs.Tokens.{Token, Place, Token.◌at◌}
+use Rattle.words.specs.Tokens.{Token, Place}
 use Rattle.grammar.specs.Parts.{Part, Level, Turn, Leaf, Argument, FactorStart, StatementStart, turn_at, level_after, leaf_of, argument_of, factor_start}
 use Rattle.grammar.specs.Parts.{statement_start, same_as, program_token, end_token, then_token, else_token, do_token, left_parenthesis, right_parenthesis}
 use Rattle.grammar.specs.Parts.{left_bracket, right_bracket, right_brace, assign_token, place_of, nothing, place_part, at_token, close_part, name_and_expression}

@@ -1,5 +1,5 @@
 -- Names of columns, sought among attributes.
-use Rattle.std.proofs.Common.{◌≡◌, ℕ, ◌-◌, ◌<◌, ◌≤◌, Bool, true, false, ◌||◌, List, [], ◌∷◌, map, length, get_or, take, drop, Some, None, Ok, Err, Option, sym, refl, ap, ◌∙◌, subst, arith}
+use Rattle.std.proofs.Common.{◌≡◌, ℕ, ◌-◌, ◌<◌, ◌≤◌, true, false, ◌||◌, List, [], ◌∷◌, map, length, get_or, take, drop, Some, None, Ok, Err, Option, sym, refl, ap, ◌∙◌, arith}
 use Rattle.std.proofs.lemmas.List.{nil_from_length}
 use Rattle.fault.specs.declared.rules.Rule.TheVariants.{NameNotFound}
 use Rattle.words.specs.Tokens.{Bytes, Place}
@@ -7,11 +7,11 @@ use Rattle.schema.specs.Columns.{Column, name_of, column_of}
 use Rattle.schema.specs.declared.attributes.Attribute.{Attribute}
 use Rattle.schema.proofs.Fronts.{cut_one}
 use Rattle.scope.specs.Names.{called}
-use Rattle.scope.specs.Chains.{Newest, Found, newest_of, newest_or, position_of, find, find_or, any}
-use Rattle.scope.proofs.Searches.{any_map, position_any, no_position_any, newest_map, newest_as, newest_entry}
+use Rattle.scope.specs.Chains.{Newest, newest_of, position_of, find}
+use Rattle.scope.proofs.Searches.{any_map, position_any, no_position_any, newest_map, newest_entry}
 use Rattle.typing.specs.Environments.{fault, is_column}
 use Rattle.typing.specs.Tables.{has, meet, meets_in}
-use Rattle.typing.specs.Checker.{Answer, bind, or_absent}
+use Rattle.typing.specs.Checker.{bind, or_absent}
 
 module _ (text : List ℕ) where
   pub has_some : (own : List Attribute) (n : Bytes) (k : ℕ) → Some k ≡ position_of (newest_of (λ a. called (name_of text a) n) own) → true ≡ has (map (column_of text) own) n

@@ -1,19 +1,18 @@
 -- The checker's steps, with what their tests say.
-use Rattle.std.proofs.Common.{◌≡◌, ℕ, ◌+◌, ◌<◌, ◌≤◌, Bool, true, false, cond, not, ltb, leb, List, [], ◌∷◌, ◌++◌, map, length, Some, None, Ok, Err, Option, sym, refl, ap, ◌∙◌, arith}
+use Rattle.std.proofs.Common.{◌≡◌, ℕ, ◌+◌, Bool, true, false, cond, not, ltb, leb, List, [], ◌∷◌, ◌++◌, map, length, Some, None, Ok, Err, Option, sym, refl, ap, ◌∙◌, arith}
 use Rattle.std.proofs.lemmas.List.{length-map, map-append}
 use Rattle.domain.specs.declared.Domain.{Domain}
 use Rattle.fault.specs.Limits.{columns}
 use Rattle.fault.specs.declared.rules.Fault.{Fault}
-use Rattle.fault.specs.declared.rules.Rule.TheVariants.{OperandMismatch, TooMany, RepeatedName, NameNotFound}
+use Rattle.fault.specs.declared.rules.Rule.TheVariants.{OperandMismatch, TooMany, RepeatedName}
 use Rattle.words.specs.Tokens.{Bytes, Place}
-use Rattle.schema.specs.Columns.{Column, column_of, schema_of, held}
-use Rattle.schema.specs.Kinds.{ValueType, ValueType.atom, ValueType.table, type_of}
-use Rattle.schema.specs.Building.{with_one, with_all, held_by}
+use Rattle.schema.specs.Columns.{Column, column_of}
+use Rattle.schema.specs.Kinds.{ValueType.atom, ValueType.table}
+use Rattle.schema.specs.Building.{with_one, with_all}
 use Rattle.schema.specs.declared.attributes.Attribute.{Attribute}
-use Rattle.schema.specs.declared.schemas.Schema.{Schema}
 use Rattle.typing.specs.Environments.{fault}
 use Rattle.typing.specs.Tables.{has, meet, column_named}
-use Rattle.typing.specs.Checker.{Answer, bind, ask, columns_of, together, with_column}
+use Rattle.typing.specs.Checker.{Answer, ask, columns_of, together, with_column}
 
 pub ask_yes : {A : Type 0} (b : Bool) (f : Fault) (then : Answer A) → b ≡ true → then ≡ ask b f then
 unfolding ask

@@ -1,5 +1,5 @@
 -- Writing behind a line.
-use Rattle.std.proofs.Common.{◌≡◌, ℕ, zero, suc, ◌+◌, ◌-◌, ◌/◌, ◌%◌, ◌^◌, ◌<◌, ◌≤◌, true, false, cond, ltb, List, [], ◌∷◌, ◌++◌, length, take, drop, set, ℤ, pos, negsuc, nat_abs, Ok, Err, decimal, sym, refl, ap, ◌∙◌, subst, ap₂, true≢false, append_assoc, add-one, arith, length-append, length-drop}
+use Rattle.std.proofs.Common.{◌≡◌, ℕ, suc, ◌+◌, ◌-◌, ◌/◌, ◌%◌, ◌^◌, ◌<◌, ◌≤◌, true, false, cond, ltb, List, [], ◌∷◌, ◌++◌, length, take, drop, set, ℤ, pos, negsuc, nat_abs, Ok, Err, decimal, sym, refl, ap, ◌∙◌, subst, ap₂, true≢false, append_assoc, add-one, arith, length-append, length-drop}
 use lib.Signed.{lt_z}
 use Rattle.std.proofs.lemmas.List.{take_at, drop_at, drop-drop, append-nil}
 use borrow.Rule.Slice.PartMut.{put_mid}

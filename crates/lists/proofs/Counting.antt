@@ -1,14 +1,14 @@
 -- How many names a list has, and what one of them makes of a column.
-use Rattle.std.proofs.Common.{◌≡◌, ℕ, suc, ◌+◌, ◌-◌, ◌<◌, ◌≤◌, Bool, true, false, cond, not, eqb, ltb, List, [], ◌∷◌, ◌++◌, map, length, get_or, drop, Some, None, Ok, Option, sym, refl, ap, ◌∙◌, subst, arith}
+use Rattle.std.proofs.Common.{◌≡◌, ℕ, suc, ◌-◌, ◌<◌, ◌≤◌, Bool, true, false, cond, not, eqb, ltb, List, [], ◌∷◌, ◌++◌, map, length, get_or, drop, Some, None, Ok, Option, sym, refl, ap, ◌∙◌, arith}
 use Rattle.std.proofs.lemmas.Bool.Decides.{nat_tests}
 use Rattle.std.proofs.lemmas.List.{drop_more, drop-map, length-map, drop_all}
 use Rattle.domain.specs.declared.Domain.{Domain}
 use Rattle.fault.specs.Limits.{columns}
-use Rattle.fault.specs.declared.rules.Rule.TheVariants.{RepeatedName, TooMany}
+use Rattle.fault.specs.declared.rules.Rule.TheVariants.{RepeatedName}
 use Rattle.words.specs.Tokens.{Bytes, Place}
 use Rattle.words.specs.Spans.{part_of}
 use Rattle.words.specs.declared.spans.Span.{Span}
-use Rattle.grammar.specs.Tree.{Name, Name.named}
+use Rattle.grammar.specs.Tree.{Name}
 use Rattle.schema.specs.Columns.{Column, column_of}
 use Rattle.schema.specs.Building.{blank, nth}
 use Rattle.schema.specs.declared.attributes.Attribute.{Attribute}
@@ -16,9 +16,7 @@ use Rattle.typing.specs.Environments.{fault}
 use Rattle.typing.specs.Tables.{has, column_named}
 use Rattle.typing.specs.Checker.{Answer, ask, with_column}
 use Rattle.tree.specs.declared.nodes.Node.{Node}
-use Rattle.tree.specs.declared.nodes.What.{What}
-use Rattle.tree.specs.declared.nodes.What.TheVariants as what
-use Rattle.tree.specs.Holds.{node_at, Said, said, says}
+use Rattle.tree.specs.Holds.{Said}
 use Rattle.lists.specs.Links.{next_of, Linked}
 use Rattle.lists.specs.Elements.{IsName}
 use Rattle.lists.specs.Naming.{span_said, RenamesOne}

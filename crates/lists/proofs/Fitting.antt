@@ -1,9 +1,8 @@
 -- Domains of constants, one by one.
-use Rattle.std.proofs.Common.{◌≡◌, ℕ, ◌-◌, ◌<◌, ◌≤◌, Bool, true, false, ◌&&◌, eqb, List, [], ◌∷◌, map, length, get_or, take, drop, Some, None, Ok, Err, Option, sym, refl, ap, ◌∙◌, subst, arith}
+use Rattle.std.proofs.Common.{◌≡◌, ℕ, ◌-◌, ◌<◌, ◌≤◌, Bool, true, false, ◌&&◌, eqb, List, [], ◌∷◌, map, length, get_or, take, drop, Some, None, Ok, Err, Option, sym, refl, ap, ◌∙◌, arith}
 use Rattle.std.proofs.lemmas.Bool.Decides.{nat_tests}
 use Rattle.std.proofs.lemmas.List.{nil_from_length, get_or_past}
 use Rattle.domain.specs.declared.Domain.{Domain}
-use Rattle.fault.specs.Limits.{columns}
 use Rattle.fault.specs.declared.rules.Rule.TheVariants.{OperandMismatch}
 use Rattle.words.specs.Tokens.{Place}
 use Rattle.grammar.specs.Tree.{Constant, Tuple, Tuple.tuple_of}
@@ -17,7 +16,7 @@ use Rattle.typing.specs.Tables.{domain_of, same_domains}
 use Rattle.typing.specs.Checker.{Answer, ask, fitting}
 use Rattle.tree.specs.declared.nodes.Node.{Node}
 use Rattle.tree.specs.declared.nodes.What.TheVariants.{Tuple as Tupled}
-use Rattle.tree.specs.Holds.{empty, node_at, Said, said}
+use Rattle.tree.specs.Holds.{empty, node_at, said}
 use Rattle.lists.specs.Links.{next_of, Linked}
 use Rattle.lists.specs.Elements.{unnamed, domain_said, IsDomain, IsTuple}
 use Rattle.lists.proofs.Walking.{same_some, not_both, at_first, at_more, at_end}

@@ -1,5 +1,5 @@
 -- A list of nodes, one link at a time.
-use Rattle.std.proofs.Common.{◌≡◌, ℕ, List, [], ◌∷◌, Some, None, Option, sym, refl, ap, ◌∙◌, subst, arith}
+use Rattle.std.proofs.Common.{◌≡◌, ℕ, List, [], ◌∷◌, Some, None, Option, sym, subst, arith}
 use Rattle.tree.specs.declared.nodes.Node.{Node}
 use Rattle.tree.specs.Holds.{node_at, Said, said}
 use Rattle.lists.specs.Links.{next_of, Linked}

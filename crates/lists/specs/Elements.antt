@@ -1,17 +1,17 @@
 -- What the elements of lists are.
-use Rattle.std.specs.Prelude.{◌≡◌, ℕ, List, [], ◌∷◌, map, Some, None, Option}
+use Rattle.std.specs.Prelude.{◌≡◌, ℕ, List, map, Some, None, Option}
 use Rattle.domain.specs.declared.Domain.{Domain}
 use Rattle.domain.specs.declared.Domain.TheVariants as domain
-use Rattle.words.specs.Tokens.{Bytes, Place}
+use Rattle.words.specs.Tokens.{Bytes}
 use Rattle.words.specs.Spans.{part_of}
 use Rattle.words.specs.declared.spans.Span.{Span}
-use Rattle.grammar.specs.Tree.{Name, Name.named, Tuple, Tuple.tuple_of, AtomicType, AtomicType.typed, Attribute, Attribute.attribute}
+use Rattle.grammar.specs.Tree.{Name, Name.named, Tuple, Tuple.tuple_of, AtomicType.typed, Attribute, Attribute.attribute}
 use Rattle.schema.specs.declared.attributes.Attribute.{Attribute as Entry}
 use Rattle.typing.specs.Tables.{domain_of}
 use Rattle.tree.specs.declared.nodes.Node.{Node}
 use Rattle.tree.specs.declared.nodes.What.{What}
 use Rattle.tree.specs.declared.nodes.What.TheVariants as what
-use Rattle.tree.specs.Holds.{node_at, Said, said, says, type_at}
+use Rattle.tree.specs.Holds.{node_at, Said, said, says}
 use Rattle.lists.specs.Links.{Linked}
 
 -- an attribute without a name

@@ -10,10 +10,10 @@ use Rattle.meaning.specs.Values as values
 use Rattle.meaning.specs.Values.{Datum}
 use Rattle.schema.specs.Columns.{Column}
 use Rattle.schema.specs.Kinds.{ValueType, ValueType.atom, ValueType.table}
-use Rattle.store.specs.Meaning.{Row, Store}
+use Rattle.store.specs.Meaning.{Row}
 use Rattle.texts.specs.Language.{Value, Value.integer, Value.string, Value.boolean}
-use Rattle.words.specs.Tokens.{Bytes, Place}
-use Rattle.machine.specs.State.{Operand, Operand.cell, Operand.table_at, Slot, Condition, Condition.going, Condition.waiting, Condition.showing, Condition.done, Condition.failed, State, with_store, with_variables, with_condition, disorder}
+use Rattle.words.specs.Tokens.{Bytes}
+use Rattle.machine.specs.State.{Operand, Operand.cell, Operand.table_at, Slot, Condition, Condition.going, Condition.waiting, Condition.showing, Condition.done, Condition.failed, State, with_variables, with_condition, disorder}
 use Rattle.machine.specs.Steps.{nth, if_there, also, with_table, building, settling, dropping, step}
 
 -- What cells stand for.

@@ -1,8 +1,7 @@
 -- Scripts with what they yield, from the text on: one table, established by one computation.
-use Rattle.std.specs.Prelude.{◌≡◌, ℕ, List, [], ◌∷◌, ◌++◌, Ok, Err, codes, Result}
+use Rattle.std.specs.Prelude.{◌≡◌, ℕ, List, [], ◌∷◌, ◌++◌, Ok, Err, codes}
 use Rattle.fault.specs.Limits.{cells}
 use Rattle.fault.specs.Rules.{number_of}
-use Rattle.fault.specs.declared.rules.Fault.{Fault}
 use Rattle.fault.specs.declared.rules.Rule.{Rule}
 use Rattle.code.specs.Generation.{code_of, strings_of}
 use Rattle.grammar.specs.Promise.{any_token, allowed}

@@ -1,9 +1,8 @@
 -- One step of the machine: one clause for each instruction. An operand that is missing or of another kind, or a place outside code, store or
 -- strings, is disorder; every other way on is written out.
-use Rattle.std.specs.Prelude.{ℕ, zero, suc, ◌+◌, ◌-◌, ◌*◌, Bool, true, false, cond, not, ◌&&◌, List, [], ◌∷◌, ◌++◌, map, length, take, ℤ, pos, negsuc, ◌+ℤ◌, ◌-ℤ◌, ◌*ℤ◌, neg_ℤ, Ok, Err, Result, ◌==◌, nat_lt, slice_index_or, slice_set}
+use Rattle.std.specs.Prelude.{ℕ, zero, suc, ◌+◌, ◌-◌, ◌*◌, Bool, true, false, cond, not, ◌&&◌, List, [], ◌∷◌, ◌++◌, map, length, take, ℤ, pos, negsuc, ◌+ℤ◌, ◌-ℤ◌, ◌*ℤ◌, neg_ℤ, Ok, Err, ◌==◌, nat_lt, slice_index_or, slice_set}
 use Rattle.std.proofs.Math.Option.{Option, none, some}
 use Rattle.fault.specs.Rules.{number_of}
-use Rattle.fault.specs.declared.rules.Fault.{Fault}
 use Rattle.fault.specs.declared.rules.Rule.TheVariants.{OutOfRange, ZeroDivisor, NoCellsLeft}
 use Rattle.meaning.specs.Values.{in_range, quotient, is_zero, less_integer, less_bytes, same_integer}
 use Rattle.schema.specs.Kinds.{ValueType}
@@ -12,7 +11,7 @@ use Rattle.words.specs.Tokens.{Bytes, Place}
 use Rattle.code.specs.Generation.{Code}
 use Rattle.code.specs.Instructions.{Operation, Instruction, Instruction.◌on◌}
 use Rattle.code.specs.Instructions.{Operation.HALT, Operation.NEWATOM, Operation.NEWTAB, Operation.POP, Operation.LDINT, Operation.LDSTR, Operation.LDTAB, Operation.IATTR, Operation.SATTR, Operation.ENDTAB, Operation.LOB, Operation.STO, Operation.LAT, Operation.SKIP, Operation.SKIPF, Operation.EQU, Operation.NEQ, Operation.IGT, Operation.IGE, Operation.ILT, Operation.ILE, Operation.SGT, Operation.SGE, Operation.SLT, Operation.SLE, Operation.PLUS, Operation.MINUS, Operation.TIMES, Operation.DIV, Operation.UMI, Operation.NEG, Operation.JOIN, Operation.ENDJOIN, Operation.SEL, Operation.ENDSEL, Operation.EXS, Operation.ENDEXS, Operation.ALL, Operation.ENDALL, Operation.ENDUPD, Operation.ENDEXT, Operation.UPD, Operation.EXT, Operation.PROJ, Operation.ATTR, Operation.ENDPROJ, Operation.GET, Operation.FGET, Operation.PRINT, Operation.FPRINT}
-use Rattle.machine.specs.State.{Operand, Operand.cell, Operand.table_at, Slot, Context, Context.over_one, Context.over_two, Condition, Condition.going, Condition.waiting, Condition.showing, Condition.done, State, with_store, with_operands, with_variables, with_contexts, with_condition, goto, fail, disorder}
+use Rattle.machine.specs.State.{Operand, Operand.cell, Operand.table_at, Slot, Context, Context.over_one, Context.over_two, Condition.waiting, Condition.showing, Condition.done, State, with_store, with_operands, with_variables, with_contexts, with_condition, goto, fail, disorder}
 
 -- Parts that may be missing.
 

@@ -1,14 +1,13 @@
 -- Passes: they are counted, and more of them only add lines.
 use Rattle.std.proofs.Common.{◌≡◌, ℕ, zero, suc, ◌+◌, ◌-◌, ◌<◌, ◌≤◌, Bool, true, false, cond, List, [], ◌∷◌, ◌++◌, sym, refl, ap, ◌∙◌, subst, append_assoc, append-nil, arith}
 use mathlib.Core.Option.{Option, none, some}
-use Rattle.fault.specs.declared.rules.Rule.{Rule}
 use Rattle.plan.specs.Plan as plan
 use Rattle.plan.specs.Plan.{Term, type_of, Action, Actions, Actions.◌then◌, Body}
 use Rattle.schema.specs.Kinds.{ValueType}
 use Rattle.words.specs.Tokens.{Bytes, Place}
 use Rattle.meaning.specs.Evaluation.{truth_of, value_in, evaluate}
 use Rattle.meaning.specs.Laws.{Begins, MorePassesAddLines, EndingsStay, PassesAreCounted}
-use Rattle.meaning.specs.Meaning.{End, End.finished, End.failed, End.without_text, End.without_pass, Ran, ran, behind, on_end, onward, with_value, when_read, with_text, with_pass, turns, with_name, name_in, named, lines_of, closing, value_of_text, run, run_all, run_body, meaning}
+use Rattle.meaning.specs.Meaning.{End, End.finished, End.failed, End.without_text, End.without_pass, Ran, ran, behind, on_end, onward, with_value, when_read, with_text, with_pass, turns, with_name, name_in, closing, value_of_text, run, run_all, run_body}
 use Rattle.meaning.specs.Values.{Datum, Computed, Computed.computed, Computed.fails}
 
 abbrev Runs : Type 0

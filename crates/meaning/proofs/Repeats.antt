@@ -1,6 +1,6 @@
 -- What is inserted row by row has no row twice.
-use Rattle.std.proofs.Common.{◌≡◌, ℕ, Bool, true, false, cond, List, [], ◌∷◌, ◌++◌, sym, refl, ◌∙◌, subst, arith}
-use Rattle.meaning.specs.Evaluation.{gathered, replacing, evaluate, value_in, rows_in}
+use Rattle.std.proofs.Common.{◌≡◌, ℕ, Bool, true, false, cond, List, [], ◌∷◌, ◌++◌, refl, subst, arith}
+use Rattle.meaning.specs.Evaluation.{gathered, replacing, evaluate, rows_in}
 use Rattle.meaning.specs.Laws.{Distinct, Distinct.no_rows, Distinct.another, UpdatesHaveNoRepeats}
 use Rattle.meaning.specs.Values.{Row, Datum, Datum.table, has, insert, Computed, Computed.computed, Computed.fails, bind}
 

@@ -6,7 +6,7 @@ use Rattle.plan.specs.Plan.{Term.constant, Term.variable, Term.attribute, Term.t
 use Rattle.texts.specs.Language.{Value, Value.integer, Value.string, Value.boolean}
 use Rattle.words.specs.declared.tokens.Logic.{Logic}
 use Rattle.words.specs.declared.tokens.Logic.TheVariants.{And, Or}
-use Rattle.meaning.specs.Values.{Row, Datum, Datum.atomic, Datum.table, insert, insert_all, compare, Computed, Computed.computed, Computed.fails, bind, ranged, sum_of, product_of}
+use Rattle.meaning.specs.Values.{Row, Datum, Datum.atomic, Datum.table, insert, insert_all, compare, Computed, Computed.computed, bind, ranged, sum_of, product_of}
 
 -- Parts of values. A typed script never asks for a part that is not there; the integer 0, false or no rows stand for it.
 

@@ -1,13 +1,12 @@
 -- What a script means: the lines that it yields and how it ends, given the accepted texts and a number of loop passes in all.
 -- There is no limit of cells here.
-use Rattle.std.specs.Prelude.{ℕ, zero, suc, ◌+◌, ◌-◌, Bool, true, false, cond, List, [], ◌∷◌, ◌++◌, map, length, take, replicate, slice_set}
+use Rattle.std.specs.Prelude.{ℕ, zero, suc, ◌+◌, ◌-◌, false, cond, List, [], ◌∷◌, ◌++◌, map, length, take, replicate, slice_set}
 use Rattle.std.proofs.Math.Option.{Option, none, some}
 use Rattle.domain.specs.declared.Domain.{Domain}
 use Rattle.domain.specs.declared.Domain.TheVariants.{Integer, String, Boolean}
 use Rattle.fault.specs.declared.rules.Rule.{Rule}
 use Rattle.plan.specs.Plan as plan
 use Rattle.plan.specs.Plan.{Term, type_of, Action, Actions, Actions.◌then◌, Body}
-use Rattle.schema.specs.Columns.{Column}
 use Rattle.schema.specs.Kinds.{ValueType, ValueType.atom, ValueType.table}
 use Rattle.texts.specs.Language.{Value, Value.integer, Value.string, Value.boolean}
 use Rattle.texts.specs.Lines.{heading_line, row_line, end_line, atom_line, to_line}

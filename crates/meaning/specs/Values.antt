@@ -1,5 +1,5 @@
 -- Values, rows and tables: when they are equal, how they compare, and what arithmetic gives.
-use Rattle.std.specs.Prelude.{ℕ, suc, ◌/◌, Bool, true, false, cond, not, ◌&&◌, ◌||◌, List, [], ◌∷◌, ◌++◌, ℤ, pos, negsuc, ◌+ℤ◌, ◌-ℤ◌, ◌*ℤ◌, neg_ℤ, ◌==◌, nat_le, nat_lt}
+use Rattle.std.specs.Prelude.{suc, ◌/◌, Bool, true, false, cond, not, ◌&&◌, ◌||◌, List, [], ◌∷◌, ◌++◌, ℤ, pos, negsuc, ◌+ℤ◌, ◌-ℤ◌, ◌*ℤ◌, neg_ℤ, ◌==◌, nat_le, nat_lt}
 use Rattle.std.specs.Int.Signed.{mag}
 use Rattle.std.specs.Str.{bytes_eq}
 use Rattle.fault.specs.Limits.{integer_max}

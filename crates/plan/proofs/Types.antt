@@ -1,11 +1,11 @@
 -- Plans keep types: one line for each rule of typing.
-use Rattle.std.proofs.Common.{◌≡◌, List, [], ◌∷◌, ◌++◌, map, Some, None, Option, refl, ap, ◌∙◌, ap₂}
+use Rattle.std.proofs.Common.{◌≡◌, List, [], ◌∷◌, ◌++◌, map, Some, Option, refl, ap, ◌∙◌, ap₂}
 use Rattle.grammar.specs.Tree.{Expression}
 use Rattle.schema.specs.Columns.{Column}
 use Rattle.schema.specs.Kinds.{ValueType, ValueType.table}
 use Rattle.scope.specs.Chains.{Found, find}
 use Rattle.scope.proofs.Searches.{sees_find, absent_find}
-use Rattle.typing.specs.Environments.{Environment, is_column, is_variable, blocks, resolve, resolve_or, referred, variable_named, Reference, Reference.to_attribute, Reference.to_variable, Refers, Refers.by_attribute, Refers.by_variable}
+use Rattle.typing.specs.Environments.{Environment, is_column, is_variable, resolve, resolve_or, referred, variable_named, Reference, Reference.to_attribute, Reference.to_variable, Refers, Refers.by_attribute, Refers.by_variable}
 use Rattle.typing.specs.Tables.{bytes_in, kept, renaming, column_named}
 use Rattle.typing.specs.Typing.{Typed, Typed.name_typed, Typed.literal_typed, Typed.tuples_typed, Typed.types_typed, Typed.logical_typed, Typed.compared_typed, Typed.summed_typed, Typed.multiplied_typed, Typed.joined_typed}
 use Rattle.typing.specs.Typing.{Typed.negative_typed, Typed.negated_typed, Typed.projected_typed, Typed.renamed_typed, Typed.selected_typed, Typed.existing_typed, Typed.everywhere_typed, Typed.updated_typed, Typed.extended_typed}

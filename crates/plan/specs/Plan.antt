@@ -1,6 +1,6 @@
 -- A plan: a script's tree with each name replaced by what it stands for, and each operator with the columns of its result.
 -- Code and meaning are defined on plans, so neither looks up a name again.
-use Rattle.std.specs.Prelude.{ℕ, List, []}
+use Rattle.std.specs.Prelude.{ℕ, List}
 use Rattle.std.proofs.Math.Option.{Option}
 use Rattle.domain.specs.declared.Domain.{Domain}
 use Rattle.domain.specs.declared.Domain.TheVariants.{Integer, Boolean}

@@ -1,9 +1,7 @@
 -- The plan of a tree. It is right for typed trees alone; of others it makes something that nobody runs.
-use Rattle.std.specs.Prelude.{ℕ, suc, ◌+◌, ◌-◌, cond, List, [], ◌∷◌, ◌++◌, map, length, pos, Some, None, Option}
+use Rattle.std.specs.Prelude.{ℕ, suc, ◌+◌, cond, List, [], ◌∷◌, ◌++◌, map, length, pos, Some, None, Option}
 use Rattle.std.proofs.Math.Option.{Option as Maybe, none, some}
-use Rattle.domain.specs.declared.Domain.{Domain}
-use Rattle.domain.specs.declared.Domain.TheVariants.{Integer}
-use Rattle.grammar.specs.Tree.{Name, Name.named, Constant.integer_constant, Tuple, AtomicType, AtomicType.typed, Attribute, Attribute.attribute, VariableType, VariableType.of_domain, VariableType.of_table}
+use Rattle.grammar.specs.Tree.{Name, Name.named, Constant.integer_constant, AtomicType.typed, Attribute, Attribute.attribute, VariableType, VariableType.of_domain, VariableType.of_table}
 use Rattle.grammar.specs.Tree.{Expression, Expression.variable, Expression.literal, Expression.table_of_tuples, Expression.table_of_types, Expression.logical, Expression.compared, Expression.summed, Expression.multiplied, Expression.joined}
 use Rattle.grammar.specs.Tree.{Expression.negative, Expression.negated, Expression.projected, Expression.renamed, Expression.selected, Expression.existing, Expression.everywhere, Expression.updated, Expression.extended}
 use Rattle.grammar.specs.Tree.{Statement, Statement.define, Statement.assign, Statement.if_then, Statement.if_then_else, Statement.while_do, Statement.read_into, Statement.write_out, Statements, Statements.no_statement, Statements.◌followed_by◌, Block, Block.closed_at}

@@ -1,6 +1,6 @@
 -- What reading a text adds to the strings: each one that has no number yet, once, by first appearance,
 -- as long as there is room for one string more and for its bytes.
-use Rattle.std.specs.Prelude.{ℕ, ◌+◌, ◌-◌, Bool, true, false, cond, ◌&&◌, List, [], ◌∷◌, ◌++◌, length, take, ℤ, pos, Some, None, Option, nat_le}
+use Rattle.std.specs.Prelude.{ℕ, ◌-◌, Bool, true, false, cond, ◌&&◌, List, [], ◌∷◌, ◌++◌, length, take, ℤ, pos, Some, None, Option, nat_le}
 use Rattle.fault.specs.Limits.{read_strings, read_bytes}
 use Rattle.texts.specs.Language.{Value, Value.integer, Value.string, Value.boolean}
 use Rattle.pool.specs.declared.fresh.Fresh.{Fresh}

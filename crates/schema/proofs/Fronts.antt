@@ -1,7 +1,7 @@
 -- Lists of columns, from the front.
-use Rattle.std.proofs.Common.{◌≡◌, ℕ, ◌-◌, ◌<◌, ◌≤◌, Bool, true, false, ◌&&◌, eqb, List, [], ◌∷◌, map, length, get_or, take, drop, sym, refl, ap, ◌∙◌, arith}
+use Rattle.std.proofs.Common.{◌≡◌, ℕ, ◌-◌, ◌<◌, ◌≤◌, true, false, ◌&&◌, eqb, List, [], ◌∷◌, map, length, get_or, take, drop, sym, refl, ap, ◌∙◌, arith}
 use Rattle.std.proofs.lemmas.Bool.Decides.{nat_tests}
-use Rattle.std.proofs.lemmas.List.{take_rest, length-drop, nil_from_length, drop_more}
+use Rattle.std.proofs.lemmas.List.{take_rest, length-drop, drop_more}
 use Rattle.schema.specs.Columns.{Column}
 use Rattle.schema.specs.Sameness.{same_column, same_columns}
 

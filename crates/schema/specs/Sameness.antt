@@ -1,5 +1,5 @@
 -- When two types are the same. A name that is missing agrees with every name, so sameness is not transitive.
-use Rattle.std.specs.Prelude.{◌≡◌, ℕ, Bool, true, false, ◌&&◌, List, [], ◌∷◌, Some, None, Option, ◌==◌}
+use Rattle.std.specs.Prelude.{◌≡◌, Bool, true, false, ◌&&◌, List, [], ◌∷◌, Some, None, Option, ◌==◌}
 use Rattle.std.specs.Str.{bytes_eq}
 use Rattle.domain.specs.declared.Domain.{Domain}
 use Rattle.domain.specs.Domains.{letter_of}

@@ -1,7 +1,7 @@
 -- The entry that a search finds stands among all entries at its number.
-use Rattle.std.proofs.Common.{◌≡◌, ℕ, suc, ◌+◌, ◌-◌, ◌<◌, ◌≤◌, Bool, List, [], ◌∷◌, ◌++◌, length, get_or, take, drop, Some, None, Option, sym, refl, ap, ◌∙◌, subst, arith}
+use Rattle.std.proofs.Common.{◌≡◌, ℕ, ◌+◌, ◌<◌, Bool, List, [], ◌∷◌, ◌++◌, length, get_or, take, drop, Some, sym, refl, ap, ◌∙◌, subst, arith}
 use Rattle.std.proofs.lemmas.List.{length-append, get_or_append_left, get_or-append-add, get_or_at, take-append-drop}
-use Rattle.scope.specs.Chains.{Found, further, size, cut, find, Search, Sees, Sees.here, Sees.outward}
+use Rattle.scope.specs.Chains.{Found, size, cut, find, Search, Sees, Sees.here, Sees.outward}
 use Rattle.scope.proofs.Searches.{search_is}
 
 -- All entries, outermost list first.

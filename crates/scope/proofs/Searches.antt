@@ -1,7 +1,7 @@
 -- What a search answers is what the relation says, and only that.
-use Rattle.std.proofs.Common.{◌≡◌, ℕ, suc, ◌+◌, Bool, true, false, ◌||◌, List, [], ◌∷◌, ◌++◌, map, length, get_or, is_some, Some, None, Option, sym, refl, ap, ◌∙◌, subst, ap₂, arith}
+use Rattle.std.proofs.Common.{◌≡◌, ℕ, ◌+◌, Bool, true, false, ◌||◌, List, [], ◌∷◌, ◌++◌, map, length, get_or, is_some, Some, None, Option, sym, refl, ap, ◌∙◌, subst, ap₂, arith}
 use Rattle.std.proofs.lemmas.List.{length-map, get_or_at}
-use Rattle.scope.specs.Chains.{Newest, position_of, Found, further, size, any, newest_of, newest_or, find, find_or, Search}
+use Rattle.scope.specs.Chains.{Newest, position_of, Found, size, any, newest_of, newest_or, find, find_or, Search}
 use Rattle.scope.specs.Chains.{Lacks, Lacks.lacks_none, Lacks.lacks_more, Sees, Sees.here, Sees.outward, Absent, Absent.absent_none, Absent.absent_more}
 
 module _ {E : Type 0} (is : E → Bool) where

@@ -1,5 +1,5 @@
 -- How many cells a list of tables uses, as tables come, go and grow.
-use Rattle.std.proofs.Common.{◌≡◌, ℕ, zero, suc, ◌+◌, ◌-◌, ◌*◌, ◌<◌, ◌≤◌, List, [], ◌∷◌, ◌++◌, length, get_or, take, set, sym, refl, ap, ◌∙◌, add_assoc, add-mul, one-mul, arith}
+use Rattle.std.proofs.Common.{◌≡◌, ℕ, zero, suc, ◌+◌, ◌*◌, ◌<◌, ◌≤◌, List, [], ◌∷◌, ◌++◌, length, get_or, take, set, sym, ap, ◌∙◌, add_assoc, add-mul, one-mul, arith}
 use Rattle.std.proofs.lemmas.List.{length-append}
 use Rattle.store.specs.Meaning.{Row, Table, no_table, size, used}
 use Rattle.store.proofs.Cases.{grown}

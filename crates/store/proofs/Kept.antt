@@ -1,12 +1,12 @@
 -- Each call keeps a store sound, and its capacity.
-use Rattle.std.proofs.Common.{◌≡◌, ℕ, ◌+◌, ◌-◌, ◌<◌, ◌≤◌, Bool, true, false, cond, ◌⊎◌, List, [], ◌∷◌, ◌++◌, length, get_or, take, drop, set, sym, refl, ap, ◌∙◌, subst, inl, inr, ⊎_elim, zero-mul, arith}
+use Rattle.std.proofs.Common.{◌≡◌, ℕ, ◌+◌, ◌<◌, ◌≤◌, true, false, List, [], ◌∷◌, length, get_or, take, drop, set, sym, refl, ap, ◌∙◌, subst, ⊎_elim, zero-mul, arith}
 use Rattle.std.proofs.lemmas.List.{length-append, length-set, length-take-le, drop_more, drop_all}
 use Rattle.std.proofs.lemmas.Bool.{and_from, cond_both, cases_Bool}
 use Rattle.std.proofs.lemmas.Bool.Decides.{nat_tests}
 use Rattle.fault.specs.Limits as limits
-use Rattle.store.specs.Meaning.{Row, Table, Store, Reply, no_table, table_count, last_place, last_table, with_tables, used, size, cells_left, row_for, repeats, fits, accepted, leaves}
+use Rattle.store.specs.Meaning.{Row, Table, Store, Reply, table_count, last_place, last_table, with_tables, cells_left, row_for, repeats, accepted, leaves}
 use Rattle.store.specs.Meaning.{open_reply, open_after, opened, add_reply, add_after, added, drop_reply, drop_after, dropped, settle_reply, settle_after, settled}
-use Rattle.store.specs.Sound.{Sound, sound_table}
+use Rattle.store.specs.Sound.{Sound}
 use Rattle.store.specs.Calls.{after, after_all}
 use Rattle.store.specs.Laws.{Whole, AllWhole}
 use Rattle.store.specs.declared.calls.Call.{Call}

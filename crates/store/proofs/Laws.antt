@@ -1,9 +1,9 @@
 -- The laws of a store, from its soundness.
-use Rattle.std.proofs.Common.{◌≡◌, ℕ, zero, suc, ◌+◌, ◌-◌, ◌<◌, ◌≤◌, true, false, not, ◌&&◌, eqb, List, [], ◌∷◌, length, get_or, sym, refl, ap, ◌∙◌, subst, arith}
+use Rattle.std.proofs.Common.{◌≡◌, ℕ, zero, suc, ◌<◌, true, not, eqb, List, [], ◌∷◌, length, get_or, sym, refl, ◌∙◌, arith}
 use Rattle.std.proofs.lemmas.Bool.{and_parts, not-true, eqb-true, false≢true}
-use Rattle.store.specs.Meaning.{Row, Table, Store, no_table, table_at, table_count, used, has, good_width}
+use Rattle.store.specs.Meaning.{Row, Table, Store, no_table, table_at, has}
 use Rattle.store.specs.Sound.{Sound, apart, wide, sound_table, sound_tables}
-use Rattle.store.specs.Calls.{after, after_all}
+use Rattle.store.specs.Calls.{after_all}
 use Rattle.store.specs.Laws.{NoTwoEqual, Lawful, StoreLaws}
 use Rattle.store.proofs.Soundness.{good, sound_at}
 use Rattle.store.proofs.Reasons.{among_found, refused_rightly}

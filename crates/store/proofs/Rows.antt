@@ -1,5 +1,5 @@
 -- Equal rows: the test of the meaning decides equality, and is symmetric.
-use Rattle.std.proofs.Common.{◌≡◌, ℕ, true, false, ◌&&◌, eqb, List, [], ◌∷◌, ℤ, pos, negsuc, Decides, sym, refl, ap, subst, ap₂, arith}
+use Rattle.std.proofs.Common.{◌≡◌, ℕ, true, ◌&&◌, eqb, [], ◌∷◌, ℤ, pos, negsuc, Decides, refl, ap, subst, ap₂, arith}
 use Rattle.std.proofs.lemmas.Bool.{and_parts, and_from, eqb-true, eq-eqb, false≢true}
 use Rattle.std.proofs.lemmas.Bool.Decides.{nat_tests}
 use Rattle.store.specs.Meaning.{Row, same_cell, same_row}

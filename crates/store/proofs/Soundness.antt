@@ -1,6 +1,6 @@
 -- Sound tables stay sound, whatever is done with them. Shown once, for every implementation.
 use Rattle.std.proofs.Common.{◌≡◌, ℕ, zero, suc, ◌<◌, ◌≤◌, true, false, not, ◌&&◌, eqb, leb, List, [], ◌∷◌, ◌++◌, length, get_or, take, set, refl, ◌∙◌, arith}
-use Rattle.std.proofs.lemmas.Bool.{and_parts, and_from, or_parts, or_from, not_from_false, not-true, eq-eqb, eqb-true, le-leb, leb-true}
+use Rattle.std.proofs.lemmas.Bool.{and_parts, and_from, or_parts, or_from, not_from_false, not-true, eq-eqb, le-leb, leb-true}
 use Rattle.fault.specs.Limits.{columns}
 use Rattle.store.specs.Meaning.{Row, Table, no_table, good_width, same_row, has}
 use Rattle.store.specs.Sound.{apart, wide, sound_table, sound_tables}

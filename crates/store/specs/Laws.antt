@@ -1,9 +1,9 @@
 -- What callers may rely on, in their own words: when a call is refused, and what no list of calls can bring about.
-use Rattle.std.specs.Prelude.{◌≡◌, ℕ, ◌+◌, ◌*◌, ◌<◌, ◌≤◌, ◌⊎◌, List, [], ◌∷◌, length, take, ℤ, ◌≢◌, slice_index_or}
+use Rattle.std.specs.Prelude.{◌≡◌, ℕ, ◌+◌, ◌<◌, ◌≤◌, List, [], ◌∷◌, length, take, ◌≢◌, slice_index_or}
 use Rattle.fault.specs.declared.rules.Rule.{Rule}
 use Rattle.fault.specs.declared.rules.Rule.TheVariants.{NoCellsLeft, TooManyTables, WidthOutside, NoSuchPlace}
 use Rattle.fault.specs.Limits as limits
-use Rattle.store.specs.Meaning.{Row, Table, Store, table_count, table_at, last_table, used, cells_left, refused_by}
+use Rattle.store.specs.Meaning.{Row, Store, table_count, table_at, last_table, used, cells_left, refused_by}
 use Rattle.store.specs.Sound.{Sound}
 use Rattle.store.specs.Calls.{answer, after, after_all}
 use Rattle.store.specs.declared.calls.Call.{Call}

@@ -3,7 +3,6 @@ use Rattle.std.proofs.Common.{◌≡◌, ℕ, zero, suc, ◌+◌, ◌-◌, ◌*�
 use mathlib.Core.Option as optional
 use Rattle.fault.specs.declared.rules.Rule.{Rule}
 use Rattle.fault.specs.declared.rules.Rule.TheVariants.{WrongHeading, WrongCell}
-use Rattle.fault.specs.declared.rules.Layer.TheVariants as layer
 use Rattle.domain.specs.declared.Domain.{Domain}
 use Rattle.domain.specs.declared.Domain.TheVariants.{Integer, String, Boolean}
 use Rattle.schema.specs.Columns.{Column}

@@ -1,16 +1,15 @@
 -- Where a value is due: a row refuses as a cell exactly there, and by what the reader of the value says.
-use Rattle.std.proofs.Common.{◌≡◌, ℕ, zero, suc, ◌+◌, ◌-◌, ◌<◌, ◌≤◌, Bool, true, false, cond, ◌⊎◌, List, [], ◌∷◌, ◌++◌, length, sym, refl, ap, ◌∙◌, subst, ap₂, inl, inr, true≢false, append_assoc, append-nil, arith, length-append}
+use Rattle.std.proofs.Common.{◌≡◌, ℕ, zero, suc, ◌<◌, ◌≤◌, Bool, true, false, cond, ◌⊎◌, List, [], ◌∷◌, ◌++◌, length, sym, refl, ap, ◌∙◌, subst, ap₂, inl, inr, true≢false, append_assoc, append-nil, arith, length-append}
 use mathlib.Core.Option as optional
 use Rattle.fault.specs.declared.rules.Rule.{Rule}
 use Rattle.fault.specs.declared.rules.Rule.TheVariants.{WrongRow, WrongCell}
-use Rattle.fault.specs.declared.rules.Layer.TheVariants as layer
 use Rattle.domain.specs.declared.Domain.{Domain}
 use Rattle.domain.specs.declared.Domain.TheVariants.{Integer, String, Boolean}
 use Rattle.schema.specs.Columns.{Column}
 use Rattle.texts.specs.Formats.{Word, Many, opening, comma, closing}
-use Rattle.texts.specs.Readers.{Reading, Reading.taken, Reading.refused, Reader, first, bind, after, give, word, finish, turns, entries, line}
+use Rattle.texts.specs.Readers.{Reading, Reading.taken, Reading.refused, Reader, first, bind, after, give, word, finish, turns, entries}
 use Rattle.texts.specs.Language.{Value, RowText, domains, ending, ValueText}
-use Rattle.texts.specs.Reading.{next, next_digit, further, read_value, read_row, read_rows, read_body, read_table}
+use Rattle.texts.specs.Reading.{next, next_digit, read_value, read_row, read_rows, read_body, read_table}
 use Rattle.texts.specs.Promise.{Placed}
 use Rattle.texts.specs.Layers.{may_end, Behind, BegunByValue, Due, ValueDue}
 use Rattle.texts.proofs.Exactness.{Reads, Outcome, anywhere, at_end, after_reads, word_reads, from_none, Leads, word_leads, after_leads}

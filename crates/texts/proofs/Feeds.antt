@@ -1,13 +1,10 @@
 -- Line feeds: a heading is one line, so that any beginning of it but the whole has none.
-use Rattle.std.proofs.Common.{◌≡◌, ℕ, ◌+◌, ◌-◌, Bool, true, false, cond, ◌⊎◌, List, [], ◌∷◌, ◌++◌, Some, None, codes, Option, sym, refl, ap, ◌∙◌, subst, ap₂, inl, inr, append_assoc, arith}
+use Rattle.std.proofs.Common.{◌≡◌, ℕ, Bool, true, false, cond, ◌⊎◌, List, [], ◌∷◌, ◌++◌, Some, None, codes, Option, sym, refl, ap, ◌∙◌, subst, ap₂, inl, inr, append_assoc, arith}
 use mathlib.Core.List.{head-eq_of_cons-eq, tail-eq_of_cons-eq, cons≢nil}
-use mathlib.Core.Option as optional
-use Rattle.fault.specs.declared.rules.Layer.TheVariants as layer
 use Rattle.domain.specs.declared.Domain.{Domain}
 use Rattle.domain.specs.declared.Domain.TheVariants.{Integer, String, Boolean}
 use Rattle.schema.specs.Columns.{Column}
 use Rattle.texts.specs.Formats.{Entries, opening, comma}
-use Rattle.texts.specs.Readers.{one, line}
 use Rattle.texts.specs.Language.{all_name_bytes, is_name, shown_name, NameText, kind, ColumnText, HeadingText}
 use Rattle.texts.specs.Layers.{has_line_feed}
 

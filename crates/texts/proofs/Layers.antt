@@ -1,16 +1,15 @@
 -- The law of the layers: heading, row or cell, by the place alone.
-use Rattle.std.proofs.Common.{◌≡◌, ℕ, ◌+◌, ◌-◌, true, false, ◌⊎◌, ◌↔◌, List, [], ◌∷◌, ◌++◌, codes, sym, refl, ap, ◌∙◌, subst, inl, inr, true≢false, append_assoc, append-nil, arith}
+use Rattle.std.proofs.Common.{◌≡◌, ℕ, true, false, ◌⊎◌, ◌↔◌, List, [], ◌∷◌, ◌++◌, codes, sym, refl, ap, ◌∙◌, subst, inl, inr, true≢false, append_assoc, append-nil, arith}
 use mathlib.Core.List.{append_cancel_right}
-use mathlib.Core.Option as optional
 use Rattle.fault.specs.declared.rules.Rule.{Rule}
 use Rattle.fault.specs.declared.rules.Rule.TheVariants.{WrongHeading, WrongRow, WrongCell}
 use Rattle.fault.specs.Rules.{layer_of}
 use Rattle.fault.specs.declared.rules.Layer.TheVariants as layer
 use Rattle.domain.specs.declared.Domain.{Domain}
 use Rattle.schema.specs.Columns.{Column}
-use Rattle.texts.specs.Readers.{Reading, Reading.taken, Reading.refused, bind, after, word, one, finish}
+use Rattle.texts.specs.Readers.{Reading, Reading.taken, Reading.refused, bind, after, word, finish}
 use Rattle.texts.specs.Language.{Value, HeadingText, domains}
-use Rattle.texts.specs.Reading.{apart, read_value, read_heading, read_body, read_table}
+use Rattle.texts.specs.Reading.{read_value, read_heading, read_body, read_table}
 use Rattle.texts.specs.Promise.{Placed}
 use Rattle.texts.specs.Layers.{BegunByValue, ValueDue, has_line_feed, TableLayer, TablesByLayer, AtomLayer, AtomsByLayer}
 use Rattle.texts.proofs.Exactness.{Took, Refused, Outcome, anywhere, at_end}

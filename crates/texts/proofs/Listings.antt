@@ -1,6 +1,5 @@
 -- The readers of headings, rows, tables and atoms are exact.
 use Rattle.std.proofs.Common.{◌≡◌, ℕ, Bool, true, false, cond, List, [], ◌∷◌, ◌++◌, Some, None, codes, Option, refl, arith}
-use mathlib.Core.Option as optional
 use Rattle.fault.specs.declared.rules.Rule.TheVariants.{WrongHeading, WrongRow}
 use Rattle.domain.specs.declared.Domain.{Domain}
 use Rattle.schema.specs.Columns.{Column}

@@ -1,6 +1,6 @@
 -- The readers of values are exact: each takes just the texts of its values, and refuses at the first byte with which none goes on.
 use Rattle.std.proofs.Common.{◌≡◌, ℕ, zero, suc, ◌+◌, ◌-◌, ◌*◌, ◌≤◌, Bool, true, false, cond, not, ◌&&◌, leb, List, [], ◌∷◌, ◌++◌, pos, neg_ℤ, codes, sym, refl, ap, ◌∙◌, subst, ap₂, inl, inr, arith}
-use mathlib.Core.Option.{Option, none, some}
+use mathlib.Core.Option.{Option, some}
 use Rattle.fault.specs.Limits.{string_bytes}
 use Rattle.fault.specs.declared.rules.Rule.TheVariants.{WrongCell}
 use Rattle.domain.specs.declared.Domain.{Domain}

@@ -1,5 +1,5 @@
 -- What is written is right, and so reads back; and each value has one text only.
-use Rattle.std.proofs.Common.{◌≡◌, ℕ, zero, suc, ◌+◌, ◌-◌, ◌^◌, ◌<◌, ◌≤◌, Bool, true, false, List, [], ◌∷◌, ◌++◌, get_or, ℤ, pos, negsuc, neg_ℤ, Some, None, codes, decimal, Option, sym, refl, ap, ◌∙◌, subst, ap₂, inl, inr, arith, rules}
+use Rattle.std.proofs.Common.{◌≡◌, ℕ, zero, suc, ◌-◌, ◌^◌, ◌<◌, ◌≤◌, Bool, true, false, List, [], ◌∷◌, ◌++◌, get_or, ℤ, pos, negsuc, neg_ℤ, Some, None, codes, decimal, Option, sym, refl, ap, ◌∙◌, subst, ap₂, inl, inr, arith, rules}
 use lib.Signed.{mag}
 use Rattle.std.specs.Fmt.{signed_decimal}
 use Rattle.std.proofs.lemmas.Fmt.{digits_decimal, digits_value-decimal, first_decimal, decimal_digit, decimal-digits_value}
@@ -7,7 +7,7 @@ use Rattle.std.proofs.lemmas.Str.Parse.{IsNumeralModel, numerals_by_fold}
 use Rattle.domain.specs.declared.Domain.{Domain}
 use Rattle.domain.specs.declared.Domain.TheVariants.{Integer, String, Boolean}
 use Rattle.schema.specs.Columns.{Column}
-use Rattle.texts.specs.Formats.{Word, One, Many, Entries, opening, comma}
+use Rattle.texts.specs.Formats.{Word, Many, Entries, opening, comma}
 use Rattle.texts.specs.Language.{Value, Value.integer, Value.string, Value.boolean, most, least, worth, all_digits, CountText, IntegerText, BooleanText, ValueText, shown_name, NameText, kind, ColumnText, HeadingText, RowText, domains, ending, TableText, AtomText}
 use Rattle.texts.specs.Reading.{read_table, read_atom}
 use Rattle.texts.specs.Lines.{value_bytes, bytes_of_name, column_bytes, entries_bytes, heading_line, row_line, row_lines, table_lines, atom_line}

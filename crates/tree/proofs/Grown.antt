@@ -1,7 +1,7 @@
 -- Arenas that grow: what a call and a further node leave of what was there.
-use Rattle.std.proofs.Common.{◌≡◌, ℕ, suc, ◌<◌, ◌≤◌, ◌≢◌, List, length, get_or, set, sym, refl, ap, ◌∙◌, subst, arith, get_or-set_other, get_or-set_same}
+use Rattle.std.proofs.Common.{◌≡◌, ℕ, ◌<◌, ◌≤◌, ◌≢◌, List, length, set, ap, ◌∙◌, arith, get_or-set_other, get_or-set_same}
 use Rattle.tree.specs.declared.nodes.Node.{Node}
-use Rattle.tree.specs.Holds.{node_at, said, empty}
+use Rattle.tree.specs.Holds.{node_at, said}
 use Rattle.tree.specs.Kept.{Below, Beyond}
 use Rattle.tree.proofs.Stable.{Agree, Firm}
 

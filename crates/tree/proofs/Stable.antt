@@ -1,9 +1,9 @@
 -- What an arena holds, another holds that agrees with it so far; and two lists in a row, linked, are one.
-use Rattle.std.proofs.Common.{◌≡◌, ℕ, suc, ◌<◌, ◌≤◌, List, [], ◌∷◌, ◌++◌, sym, refl, ap, ◌∙◌, subst, arith}
-use mathlib.Core.Option.{Option, none, some}
+use Rattle.std.proofs.Common.{◌≡◌, ℕ, suc, ◌<◌, ◌≤◌, List, [], ◌∷◌, ◌++◌, sym, ◌∙◌, subst, arith}
+use mathlib.Core.Option.{none, some}
 use Rattle.words.specs.Tokens.{Bytes, Place}
 use Rattle.grammar.specs.Parts.{append_statements}
-use Rattle.grammar.specs.Tree.{Name, Constant, Tuple, AtomicType, Attribute, VariableType, Expression, Statement, Statements, Block}
+use Rattle.grammar.specs.Tree.{Statements}
 use Rattle.grammar.specs.Tree.{Name.named, Constant.integer_constant, Constant.string_constant, Constant.truth_constant, Tuple.tuple_of, AtomicType.typed}
 use Rattle.grammar.specs.Tree.{Attribute.attribute, VariableType.of_domain, VariableType.of_table, Expression.variable, Expression.literal}
 use Rattle.grammar.specs.Tree.{Expression.table_of_tuples, Expression.table_of_types, Expression.logical, Expression.compared, Expression.summed}

@@ -1,30 +1,26 @@
 -- What is typed, or fails, is answered so.
-use Rattle.std.proofs.Common.{◌≡◌, ℕ, ◌+◌, ◌<◌, ◌≤◌, Bool, true, false, not, ◌&&◌, eqb, ltb, leb, List, [], ◌∷◌, ◌++◌, map, length, Some, None, Ok, Err, Option, Result, sym, refl, ap, ◌∙◌, subst}
-use mathlib.Core.Option.{Option as Maybe, none, some}
+use Rattle.std.proofs.Common.{◌≡◌, eqb, List, map, length, Some, None, Ok, Err, refl, ap, ◌∙◌}
+use mathlib.Core.Option.{Option as Maybe}
 use Rattle.domain.specs.declared.Domain.{Domain}
 use Rattle.domain.specs.declared.Domain.TheVariants.{Integer, String, Boolean}
-use Rattle.fault.specs.Limits.{columns, variables}
 use Rattle.fault.specs.declared.rules.Fault.{Fault}
-use Rattle.fault.specs.declared.rules.Rule.TheVariants.{RepeatedName, NameNotFound, OperandMismatch, StatementMismatch, TooMany}
 use Rattle.words.specs.Tokens.{Bytes, Place}
-use Rattle.grammar.specs.Tree.{Name, Name.named, Constant, Tuple, Tuple.tuple_of, AtomicType, AtomicType.typed, Attribute, Attribute.attribute, VariableType, VariableType.of_domain, VariableType.of_table}
-use Rattle.grammar.specs.Tree.{Expression, Expression.variable, Expression.literal, Expression.table_of_tuples, Expression.table_of_types, Expression.logical, Expression.compared, Expression.summed, Expression.multiplied, Expression.joined}
-use Rattle.grammar.specs.Tree.{Expression.negative, Expression.negated, Expression.projected, Expression.renamed, Expression.selected, Expression.existing, Expression.everywhere, Expression.updated, Expression.extended}
-use Rattle.grammar.specs.Tree.{Statement, Statement.define, Statement.assign, Statement.if_then, Statement.if_then_else, Statement.while_do, Statement.read_into, Statement.write_out, Statements, Statements.no_statement, Statements.◌followed_by◌, Block, Block.closed_at}
+use Rattle.grammar.specs.Tree.{Name, Tuple, Attribute, VariableType}
+use Rattle.grammar.specs.Tree.{Expression}
+use Rattle.grammar.specs.Tree.{Statement, Statements, Block}
 use Rattle.schema.specs.Columns.{Column}
-use Rattle.schema.specs.Kinds.{ValueType, ValueType.atom, ValueType.table}
+use Rattle.schema.specs.Kinds.{ValueType}
 use Rattle.schema.specs.Sameness.{same_type}
-use Rattle.schema.proofs.Sames.{never, domain_same, type_is, is_type}
-use Rattle.scope.specs.Chains.{Found, find, Search, Sees, Absent}
-use Rattle.scope.proofs.Searches.{search_is, sees_find, absent_find}
-use Rattle.typing.specs.Environments.{fault, Variable, Environment, blocks, count, start, inside, opened, defining, is_column, is_variable, Reference, referred, attribute_found, variable_found, variable_named, resolve, resolve_or, Refers, Refers.by_attribute, Refers.by_variable, Unknown, Unknown.nowhere}
-use Rattle.typing.specs.Tables.{bytes_in, domain_in, domain_of, first_domains, nameless, column_named, has, among, defines, meet, kept, renaming, is_atom, both_atoms, comparable, same_domains}
+use Rattle.schema.proofs.Sames.{domain_same, type_is, is_type}
+use Rattle.scope.proofs.Searches.{sees_find, absent_find}
+use Rattle.typing.specs.Environments.{Environment, is_column, is_variable, Reference, variable_named, resolve, resolve_or, Refers, Refers.by_attribute, Refers.by_variable, Unknown, Unknown.nowhere}
+use Rattle.typing.specs.Tables.{domain_of, is_atom, both_atoms, comparable, same_domains}
 use Rattle.typing.specs.Typing.{Listed, Listed.listed_none, Listed.listed_more, Distinct, Distinct.distinct_none, Distinct.distinct_more, Fitting, Fitting.fitting_none, Fitting.fitting_more}
 use Rattle.typing.specs.Typing.{Typed, Typed.name_typed, Typed.literal_typed, Typed.tuples_typed, Typed.types_typed, Typed.logical_typed, Typed.compared_typed, Typed.summed_typed, Typed.multiplied_typed, Typed.joined_typed, Typed.negative_typed, Typed.negated_typed}
 use Rattle.typing.specs.Typing.{Typed.projected_typed, Typed.renamed_typed, Typed.selected_typed, Typed.existing_typed, Typed.everywhere_typed, Typed.updated_typed, Typed.extended_typed}
 use Rattle.typing.specs.Typing.{Declared, Declared.declared_none, Declared.declared_more, Declares, Declares.declares_atom, Declares.declares_table, Defined, Defined.defined_none, Defined.defined_more, Specified, Specified.not_specified, Specified.specified}
 use Rattle.typing.specs.Typing.{Valid, Valid.define_valid, Valid.assign_valid, Valid.if_then_valid, Valid.if_then_else_valid, Valid.while_do_valid, Valid.read_into_valid, Valid.write_out_valid, ValidAll, ValidAll.none_valid, ValidAll.more_valid, ValidBlock, ValidBlock.block_valid, Right, Right.program_right}
-use Rattle.typing.specs.Failing.{Not, Mislisted, Mislisted.listed_absent, Mislisted.listed_twice, Mislisted.listed_later, Repeats, Repeats.repeats_here, Repeats.repeats_later, Misfitting, Misfitting.misfits_here, Misfitting.misfits_later}
+use Rattle.typing.specs.Failing.{Mislisted, Mislisted.listed_absent, Mislisted.listed_twice, Mislisted.listed_later, Repeats, Repeats.repeats_here, Repeats.repeats_later, Misfitting, Misfitting.misfits_here, Misfitting.misfits_later}
 use Rattle.typing.specs.Failing.{Fails, Fails.name_unknown, Fails.tuples_count, Fails.tuples_misfit, Fails.types_count, Fails.logical_left, Fails.logical_right, Fails.logical_types, Fails.compared_left, Fails.compared_right, Fails.compared_types}
 use Rattle.typing.specs.Failing.{Fails.summed_left, Fails.summed_right, Fails.summed_types, Fails.multiplied_left, Fails.multiplied_right, Fails.multiplied_types, Fails.joined_left, Fails.joined_right, Fails.joined_left_atom, Fails.joined_right_atom, Fails.joined_count, Fails.joined_names, Fails.joined_inner, Fails.joined_type}
 use Rattle.typing.specs.Failing.{Fails.negative_operand, Fails.negative_type, Fails.negated_operand, Fails.negated_type, Fails.projected_operand, Fails.projected_atom, Fails.projected_names, Fails.renamed_operand, Fails.renamed_atom, Fails.renamed_count, Fails.renamed_names}
@@ -33,8 +29,8 @@ use Rattle.typing.specs.Failing.{Fails.updated_operand, Fails.updated_atom, Fail
 use Rattle.typing.specs.Failing.{Misdeclared, Misdeclared.declared_twice, Misdeclared.declared_crowded, Misdeclared.declared_later, Misdefined, Misdefined.defined_twice, Misdefined.defined_crowded, Misdefined.defined_later, Misspecified, Misspecified.specifier_fails, Misspecified.specifier_type}
 use Rattle.typing.specs.Failing.{Invalid, Invalid.define_type, Invalid.define_names, Invalid.assign_name, Invalid.assign_expression, Invalid.assign_type, Invalid.if_then_test, Invalid.if_then_type, Invalid.if_then_block, Invalid.if_then_else_test, Invalid.if_then_else_type, Invalid.if_then_else_block, Invalid.if_then_else_other}
 use Rattle.typing.specs.Failing.{Invalid.while_do_test, Invalid.while_do_type, Invalid.while_do_block, Invalid.read_into_specifier, Invalid.read_into_name, Invalid.write_out_specifier, Invalid.write_out_expression, InvalidAll, InvalidAll.first_invalid, InvalidAll.later_invalid, InvalidBlock, InvalidBlock.block_invalid, Wrong, Wrong.program_wrong}
-use Rattle.typing.specs.Checker.{Answer, bind, ask, or_absent, columns_of, listed, distinct, fitting, together, with_column, projection, renamings, check, attributes_from, declare, define_all, specify, test, check_statement, check_statements, check_block, check_program}
-use Rattle.typing.proofs.Tests.{not_true, not_false, refutes, refuted, leb_true, leb_false, ltb_true, ltb_false, leb_le, leb_lt, ltb_lt, ltb_le, eqb_is, is_eqb, atom_is, is_atom_lem, atoms_are, are_atoms, comparable_is, is_comparable, domains_are, are_domains}
+use Rattle.typing.specs.Checker.{bind, ask, or_absent, columns_of, listed, distinct, fitting, together, with_column, projection, renamings, check, attributes_from, declare, define_all, specify, test, check_statement, check_statements, check_block, check_program}
+use Rattle.typing.proofs.Tests.{refuted, leb_true, leb_false, ltb_true, ltb_false, eqb_is, is_eqb, atom_is, atoms_are, comparable_is, is_comparable, domains_are, are_domains}
 
 -- What a name stands for is what the search answers.
 refers_resolve : {env : Environment} {n : Bytes} {r : Reference} → Refers env n r → resolve env n ≡ Some r

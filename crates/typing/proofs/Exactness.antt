@@ -1,5 +1,5 @@
 -- The promises, from both directions.
-use Rattle.std.proofs.Common.{◌≡◌, ℕ, ◌⊎◌, ◌↔◌, Ok, Err, sym, refl, ◌∙◌, subst, inl, inr, arith}
+use Rattle.std.proofs.Common.{◌≡◌, ℕ, ◌⊎◌, Ok, Err, subst, inl, inr, arith}
 use Rattle.fault.specs.declared.rules.Fault.{Fault}
 use Rattle.typing.specs.Checker.{Answer}
 use Rattle.typing.specs.Promise.{Exact, ExpressionsExact, StatementsExact, ProgramsExact}

@@ -1,16 +1,16 @@
 -- The widths of tables, and the room that nested brackets take.
-use Rattle.std.proofs.Common.{◌≡◌, ℕ, zero, suc, ◌+◌, ◌*◌, ◌<◌, ◌≤◌, Bool, true, false, cond, List, [], ◌∷◌, ◌++◌, map, length, sym, refl, ap, ◌∙◌, subst, arith}
+use Rattle.std.proofs.Common.{◌≡◌, ℕ, zero, suc, ◌+◌, ◌*◌, ◌≤◌, Bool, true, false, cond, List, [], ◌∷◌, ◌++◌, map, length, refl, ap, subst, arith}
 use Rattle.std.proofs.lemmas.List.{length-append}
 use Rattle.domain.specs.declared.Domain.{Domain}
-use Rattle.fault.specs.Limits.{columns, depth, attributes}
-use Rattle.words.specs.Tokens.{Bytes, Place}
+use Rattle.fault.specs.Limits.{columns, depth}
+use Rattle.words.specs.Tokens.{Bytes}
 use Rattle.grammar.specs.Tree.{Expression}
 use Rattle.schema.specs.Columns.{Column}
-use Rattle.schema.specs.Kinds.{ValueType, ValueType.atom, ValueType.table}
-use Rattle.scope.specs.Chains.{Found, size, Lacks, Sees, Sees.here, Sees.outward}
-use Rattle.typing.specs.Environments.{Variable, Environment, blocks, inside, is_column, is_variable, Refers, Refers.by_attribute, Refers.by_variable, referred}
+use Rattle.schema.specs.Kinds.{ValueType.table}
+use Rattle.scope.specs.Chains.{Found, size, Sees, Sees.here, Sees.outward}
+use Rattle.typing.specs.Environments.{Variable, Environment, inside, Refers.by_attribute, Refers.by_variable}
 use Rattle.typing.specs.Tables.{bytes_in, domain_in, first_domains, nameless, column_named, chosen, kept, renaming}
-use Rattle.typing.specs.Typing.{Typed, Typed.name_typed, Typed.literal_typed, Typed.tuples_typed, Typed.types_typed, Typed.logical_typed, Typed.compared_typed, Typed.summed_typed, Typed.multiplied_typed, Typed.joined_typed, Typed.negative_typed, Typed.negated_typed}
+use Rattle.typing.specs.Typing.{Typed.name_typed, Typed.literal_typed, Typed.tuples_typed, Typed.types_typed, Typed.logical_typed, Typed.compared_typed, Typed.summed_typed, Typed.multiplied_typed, Typed.joined_typed, Typed.negative_typed, Typed.negated_typed}
 use Rattle.typing.specs.Typing.{Typed.projected_typed, Typed.renamed_typed, Typed.selected_typed, Typed.existing_typed, Typed.everywhere_typed, Typed.updated_typed, Typed.extended_typed}
 use Rattle.typing.specs.Nesting.{Inside, Nests, Fits, Fits.atom_fits, Fits.table_fits, AllFit, EveryFits, Few, Part, Parts, Parts.itself, Parts.deeper, WidthsFit, NeverFull}
 use Rattle.typing.specs.Nesting.{Part.logical_left, Part.logical_right, Part.compared_left, Part.compared_right, Part.summed_left, Part.summed_right, Part.multiplied_left, Part.multiplied_right, Part.joined_left, Part.joined_right, Part.joined_inner}

@@ -1,12 +1,11 @@
 -- The tests decide what they test.
-use Rattle.std.proofs.Common.{◌≡◌, ℕ, ◌<◌, ◌≤◌, Bool, true, false, cond, not, ◌&&◌, eqb, ltb, leb, List, [], ◌∷◌, map, sym, refl, ap, ◌∙◌, subst, ap₂, arith}
+use Rattle.std.proofs.Common.{◌≡◌, ℕ, ◌<◌, ◌≤◌, Bool, true, false, cond, not, ◌&&◌, eqb, ltb, leb, List, [], ◌∷◌, sym, refl, ap, ◌∙◌, subst, ap₂, arith}
 use Rattle.std.proofs.lemmas.Bool.Decides.{nat_tests}
 use Rattle.std.proofs.lemmas.Bool.{and_parts}
 use Rattle.domain.specs.declared.Domain.{Domain}
 use Rattle.words.specs.declared.tokens.Comparison.{Comparison}
-use Rattle.schema.specs.Columns.{Column}
 use Rattle.schema.specs.Kinds.{ValueType, ValueType.atom, ValueType.table}
-use Rattle.schema.specs.Sameness.{SameType, same_domain, same_type}
+use Rattle.schema.specs.Sameness.{same_domain, same_type}
 use Rattle.schema.proofs.Sames.{never, domain_is, domain_same, type_is, is_type}
 use Rattle.typing.specs.Tables.{is_atom, both_atoms, ordered, is_equality, both_ordered, comparable, Comparable, Comparable.by_sameness, Comparable.by_order, same_domains}
 use Rattle.typing.specs.Failing.{Not}

@@ -1,5 +1,5 @@
 -- The checker: the type of an expression, or the fault of the first check that fails; the environment behind a statement, or that fault.
-use Rattle.std.specs.Prelude.{ℕ, ◌+◌, Bool, true, false, not, List, [], ◌∷◌, ◌++◌, map, length, Some, None, Ok, Err, Option, Result, ◌==◌, nat_le, nat_lt}
+use Rattle.std.specs.Prelude.{◌+◌, Bool, true, false, not, List, [], ◌∷◌, ◌++◌, map, length, Some, None, Ok, Err, Option, Result, ◌==◌, nat_le, nat_lt}
 use Rattle.std.proofs.Math.Option.{Option as Maybe, none, some}
 use Rattle.domain.specs.declared.Domain.{Domain}
 use Rattle.domain.specs.declared.Domain.TheVariants.{Integer, String, Boolean}
@@ -7,15 +7,15 @@ use Rattle.fault.specs.Limits.{columns, variables}
 use Rattle.fault.specs.declared.rules.Fault.{Fault}
 use Rattle.fault.specs.declared.rules.Rule.TheVariants.{RepeatedName, NameNotFound, OperandMismatch, StatementMismatch, TooMany}
 use Rattle.words.specs.Tokens.{Bytes, Place}
-use Rattle.grammar.specs.Tree.{Name, Name.named, Constant, Tuple, Tuple.tuple_of, AtomicType, AtomicType.typed, Attribute, Attribute.attribute, VariableType, VariableType.of_domain, VariableType.of_table}
+use Rattle.grammar.specs.Tree.{Name, Name.named, Tuple, Tuple.tuple_of, AtomicType.typed, Attribute, Attribute.attribute, VariableType, VariableType.of_domain, VariableType.of_table}
 use Rattle.grammar.specs.Tree.{Expression, Expression.variable, Expression.literal, Expression.table_of_tuples, Expression.table_of_types, Expression.logical, Expression.compared, Expression.summed, Expression.multiplied, Expression.joined}
 use Rattle.grammar.specs.Tree.{Expression.negative, Expression.negated, Expression.projected, Expression.renamed, Expression.selected, Expression.existing, Expression.everywhere, Expression.updated, Expression.extended}
 use Rattle.grammar.specs.Tree.{Statement, Statement.define, Statement.assign, Statement.if_then, Statement.if_then_else, Statement.while_do, Statement.read_into, Statement.write_out, Statements, Statements.no_statement, Statements.◌followed_by◌, Block, Block.closed_at}
 use Rattle.schema.specs.Columns.{Column}
 use Rattle.schema.specs.Kinds.{ValueType, ValueType.atom, ValueType.table}
 use Rattle.schema.specs.Sameness.{same_type}
-use Rattle.scope.specs.Chains.{Found, find}
-use Rattle.typing.specs.Environments.{fault, Variable, Environment, blocks, count, start, inside, opened, defining, is_column, is_variable, referred, variable_named, resolve}
+use Rattle.scope.specs.Chains.{find}
+use Rattle.typing.specs.Environments.{fault, Environment, count, start, inside, opened, defining, is_column, referred, variable_named, resolve}
 use Rattle.typing.specs.Tables.{bytes_in, domain_in, domain_of, first_domains, nameless, column_named, has, among, defines, meet, kept, renaming, is_atom, both_atoms, comparable, same_domains}
 
 abbrev pub Answer : Type 0 → Type 0

@@ -5,7 +5,7 @@ use Rattle.words.specs.Tokens.{Bytes, Place}
 use Rattle.fault.specs.declared.rules.Fault.{Fault}
 use Rattle.fault.specs.declared.rules.Rule.{Rule}
 use Rattle.schema.specs.Columns.{Column}
-use Rattle.schema.specs.Kinds.{ValueType, ValueType.atom, ValueType.table}
+use Rattle.schema.specs.Kinds.{ValueType, ValueType.atom}
 use Rattle.scope.specs.Names.{called}
 use Rattle.scope.specs.Chains.{Found, size, find, Sees, Absent}
 

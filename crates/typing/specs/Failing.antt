@@ -1,7 +1,7 @@
 -- Which check is the first to fail where an expression has no type, or a statement is not right.
 -- One constructor for each check; its premises say that every check before it passed.
-use Rattle.std.specs.Prelude.{◌≡◌, ℕ, ◌+◌, ◌<◌, ◌≤◌, Bool, true, false, List, [], ◌∷◌, ◌++◌, map, length}
-use Rattle.std.proofs.Math.Option.{Option, none, some}
+use Rattle.std.specs.Prelude.{◌≡◌, ◌+◌, ◌<◌, ◌≤◌, true, false, List, [], ◌∷◌, ◌++◌, map, length}
+use Rattle.std.proofs.Math.Option.{Option, some}
 use Rattle.domain.specs.declared.Domain.{Domain}
 use Rattle.domain.specs.declared.Domain.TheVariants.{Integer, String, Boolean}
 use Rattle.fault.specs.Limits.{columns, variables}
@@ -12,17 +12,17 @@ use Rattle.words.specs.declared.tokens.Logic.{Logic}
 use Rattle.words.specs.declared.tokens.Comparison.{Comparison}
 use Rattle.words.specs.declared.tokens.Sum.{Sum}
 use Rattle.words.specs.declared.tokens.Product.{Product}
-use Rattle.grammar.specs.Tree.{Name, Name.named, Constant, Tuple, Tuple.tuple_of, AtomicType, AtomicType.typed, Attribute, Attribute.attribute, VariableType, VariableType.of_domain, VariableType.of_table}
-use Rattle.grammar.specs.Tree.{Expression, Expression.variable, Expression.literal, Expression.table_of_tuples, Expression.table_of_types, Expression.logical, Expression.compared, Expression.summed, Expression.multiplied, Expression.joined}
+use Rattle.grammar.specs.Tree.{Name, Name.named, Constant, Tuple, Tuple.tuple_of, AtomicType, AtomicType.typed, Attribute, Attribute.attribute, VariableType, VariableType.of_table}
+use Rattle.grammar.specs.Tree.{Expression, Expression.variable, Expression.table_of_tuples, Expression.table_of_types, Expression.logical, Expression.compared, Expression.summed, Expression.multiplied, Expression.joined}
 use Rattle.grammar.specs.Tree.{Expression.negative, Expression.negated, Expression.projected, Expression.renamed, Expression.selected, Expression.existing, Expression.everywhere, Expression.updated, Expression.extended}
-use Rattle.grammar.specs.Tree.{Statement, Statement.define, Statement.assign, Statement.if_then, Statement.if_then_else, Statement.while_do, Statement.read_into, Statement.write_out, Statements, Statements.no_statement, Statements.◌followed_by◌, Block, Block.closed_at}
+use Rattle.grammar.specs.Tree.{Statement, Statement.define, Statement.assign, Statement.if_then, Statement.if_then_else, Statement.while_do, Statement.read_into, Statement.write_out, Statements, Statements.◌followed_by◌, Block, Block.closed_at}
 use Rattle.schema.specs.Columns.{Column}
 use Rattle.schema.specs.Kinds.{ValueType, ValueType.atom, ValueType.table}
 use Rattle.schema.specs.Sameness.{SameType}
 use Rattle.scope.specs.Chains.{Found, Sees, Absent}
 use Rattle.typing.specs.Environments.{fault, Variable, Environment, blocks, count, start, inside, opened, defining, is_column, is_variable, Unknown}
-use Rattle.typing.specs.Tables.{bytes_in, domain_in, domain_of, first_domains, column_named, has, among, defines, meet, Comparable}
-use Rattle.typing.specs.Typing.{Listed, Distinct, Fitting, Typed, Declared, Declares, Defined, Specified, Valid, ValidAll, ValidBlock}
+use Rattle.typing.specs.Tables.{domain_in, domain_of, first_domains, column_named, has, among, defines, meet, Comparable}
+use Rattle.typing.specs.Typing.{Typed, Declares, Specified, Valid, ValidBlock}
 
 abbrev pub Not : Type 0 → Type 0
 Not P = P → ⊥

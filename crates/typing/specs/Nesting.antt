@@ -1,8 +1,8 @@
 -- How deep brackets nest, and how many attributes they bring into scope: the buffer for attributes in scope never fills.
-use Rattle.std.specs.Prelude.{◌≡◌, ℕ, zero, suc, ◌+◌, ◌*◌, ◌<◌, ◌≤◌, false, List, [], ◌∷◌, ◌++◌, length}
+use Rattle.std.specs.Prelude.{◌≡◌, ℕ, zero, suc, ◌+◌, ◌≤◌, List, [], ◌∷◌, ◌++◌, length}
 use Rattle.domain.specs.declared.Domain.{Domain}
 use Rattle.fault.specs.Limits.{columns, depth, attributes}
-use Rattle.words.specs.Tokens.{Bytes, Place}
+use Rattle.words.specs.Tokens.{Place}
 use Rattle.words.specs.declared.tokens.Logic.{Logic}
 use Rattle.words.specs.declared.tokens.Comparison.{Comparison}
 use Rattle.words.specs.declared.tokens.Sum.{Sum}
@@ -14,7 +14,6 @@ use Rattle.schema.specs.Columns.{Column}
 use Rattle.schema.specs.Kinds.{ValueType, ValueType.atom, ValueType.table}
 use Rattle.scope.specs.Chains.{size}
 use Rattle.typing.specs.Environments.{Variable, Environment, blocks, inside}
-use Rattle.typing.specs.Tables.{meet}
 use Rattle.typing.specs.Typing.{Typed}
 
 -- what is inside a bracket nests one less

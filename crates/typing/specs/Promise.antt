@@ -1,5 +1,5 @@
 -- What the checker promises: it accepts exactly what is typed, and refuses with the first check that fails.
-use Rattle.std.specs.Prelude.{◌≡◌, ◌⊎◌, ◌↔◌, Ok, Err, Result}
+use Rattle.std.specs.Prelude.{◌≡◌, ◌⊎◌, ◌↔◌, Ok, Err}
 use Rattle.fault.specs.declared.rules.Fault.{Fault}
 use Rattle.grammar.specs.Tree.{Expression, Statement, Block}
 use Rattle.typing.specs.Environments.{Environment}

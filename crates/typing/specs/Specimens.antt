@@ -1,7 +1,7 @@
 -- Small programs by their trees, and what the checker answers: the examples of the documentation, and some that are accepted.
-use Rattle.std.specs.Prelude.{◌≡◌, ℕ, true, false, List, [], ◌∷◌, pos, Ok, Err, codes}
+use Rattle.std.specs.Prelude.{◌≡◌, ℕ, true, List, [], ◌∷◌, pos, Ok, Err, codes}
 use Rattle.std.proofs.Math.Option.{none}
-use Rattle.domain.specs.declared.Domain.TheVariants.{Integer, String, Boolean}
+use Rattle.domain.specs.declared.Domain.TheVariants.{Integer, Boolean}
 use Rattle.fault.specs.declared.rules.Rule.TheVariants.{RepeatedName, NameNotFound, OperandMismatch, StatementMismatch}
 use Rattle.words.specs.Tokens.{Bytes, Place}
 use Rattle.words.specs.declared.tokens.Sum.TheVariants.{Plus}

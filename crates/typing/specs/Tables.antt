@@ -1,9 +1,9 @@
 -- Columns as the operators see and change them.
-use Rattle.std.specs.Prelude.{◌≡◌, ℕ, Bool, true, false, cond, ◌&&◌, ◌||◌, List, [], ◌∷◌, ◌++◌, map, Some, None, Option}
+use Rattle.std.specs.Prelude.{◌≡◌, Bool, true, false, cond, ◌&&◌, ◌||◌, List, [], ◌∷◌, map, Some, None, Option}
 use Rattle.std.specs.Str.{bytes_eq}
 use Rattle.domain.specs.declared.Domain.{Domain}
 use Rattle.domain.specs.declared.Domain.TheVariants.{Integer, String, Boolean}
-use Rattle.words.specs.Tokens.{Bytes, Place}
+use Rattle.words.specs.Tokens.{Bytes}
 use Rattle.words.specs.declared.tokens.Comparison.{Comparison}
 use Rattle.words.specs.declared.tokens.Comparison.TheVariants.{Equal, NotEqual, Greater, GreaterEqual, Less, LessEqual}
 use Rattle.grammar.specs.Tree.{Name, Name.named, Constant, Constant.integer_constant, Constant.string_constant, Constant.truth_constant}

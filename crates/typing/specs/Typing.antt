@@ -1,6 +1,6 @@
 -- Which expressions have which type, and which statements are right. Each rule stands above its constructor.
 -- `Typed env e t`: in the environment, e has type t. `Valid env s next`: s is right there, and what follows it is checked in next.
-use Rattle.std.specs.Prelude.{◌≡◌, ℕ, ◌+◌, ◌<◌, ◌≤◌, Bool, true, false, List, [], ◌∷◌, ◌++◌, map, length}
+use Rattle.std.specs.Prelude.{◌≡◌, ◌+◌, ◌<◌, ◌≤◌, true, false, List, [], ◌∷◌, ◌++◌, map, length}
 use Rattle.std.proofs.Math.Option.{Option, none, some}
 use Rattle.domain.specs.declared.Domain.{Domain}
 use Rattle.domain.specs.declared.Domain.TheVariants.{Integer, String, Boolean}
@@ -19,7 +19,7 @@ use Rattle.schema.specs.Kinds.{ValueType, ValueType.atom, ValueType.table}
 use Rattle.schema.specs.Sameness.{SameType}
 use Rattle.scope.specs.Chains.{Found, Sees}
 use Rattle.typing.specs.Environments.{Variable, Environment, blocks, count, start, inside, opened, defining, is_column, is_variable, Reference, referred, Refers}
-use Rattle.typing.specs.Tables.{bytes_in, domain_in, domain_of, tuple_domains, first_domains, nameless, column_named, has, among, defines, meet, kept, renaming, Comparable}
+use Rattle.typing.specs.Tables.{bytes_in, domain_in, domain_of, first_domains, nameless, column_named, has, among, defines, meet, kept, renaming, Comparable}
 
 -- Lists of names and of constants.
 

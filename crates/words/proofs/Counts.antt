@@ -1,12 +1,12 @@
 -- Counting the tokens that are left, one step at a time.
-use Rattle.std.proofs.Common.{◌≡◌, ℕ, ◌+◌, ◌≤◌, List, [], ◌∷◌, Some, None, Ok, Err, Option, Result, sym, refl, ap, ◌∙◌, arith}
+use Rattle.std.proofs.Common.{◌≡◌, ℕ, ◌+◌, ◌≤◌, Some, None, Ok, Err, Option, Result, sym, refl, ap, ◌∙◌, arith}
 use Rattle.fault.specs.declared.rules.Fault.{Fault}
 use Rattle.words.specs.declared.tallies.Tally.{Tally}
 use Rattle.words.specs.declared.tokens.Token.{Token as Borrowed}
 use Rattle.words.specs.declared.tokens.Token.TheVariants as borrowed
-use Rattle.words.specs.Lexing.{Spot, Scan.found, Scan.ended, Scan.faulty, place, next, tokens_from}
-use Rattle.words.specs.Tallies.{total, counted, counted_as, breaks, tallied}
-use Rattle.words.specs.Tokens.{Place, Terminal, Token.◌at◌}
+use Rattle.words.specs.Lexing.{Spot, Scan.ended, Scan.faulty, place, next, tokens_from}
+use Rattle.words.specs.Tallies.{total, counted_as, tallied}
+use Rattle.words.specs.Tokens.{Place, Terminal}
 use Rattle.words.specs.Tokens.{Terminal.word, Terminal.domain, Terminal.logic, Terminal.truth, Terminal.sign, Terminal.comparison, Terminal.sum, Terminal.product, Terminal.name, Terminal.integer, Terminal.string, Terminal.broken}
 use Rattle.words.specs.Views.{spoken, heard, weight}
 use Rattle.words.proofs.Readings.{tokens_found, tokens_ended, tokens_broken}

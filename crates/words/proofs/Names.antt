@@ -1,5 +1,5 @@
 -- A token by its parts: how many bytes it takes, what it says, where it leaves the text.
-use Rattle.std.proofs.Common.{◌≡◌, ℕ, ◌-◌, ◌≤◌, take, Some, None, Option, arith}
+use Rattle.std.proofs.Common.{◌≡◌, ℕ, ◌-◌, ◌≤◌, take, Some, Option, arith}
 use Rattle.std.proofs.lemmas.Bool.Decides.{nat_tests}
 use Rattle.fault.specs.Limits.{name_bytes}
 use Rattle.words.specs.Letters.{run, name_byte}

@@ -1,19 +1,19 @@
 -- Every text has exactly one list of tokens, the scanner's; and the laws by which a caller takes that list token by token.
-use Rattle.std.proofs.Common.{◌≡◌, ℕ, zero, suc, ◌+◌, ◌-◌, ◌<◌, ◌≤◌, Bool, true, false, cond, ◌||◌, eqb, leb, List, [], ◌∷◌, ◌++◌, length, take, drop, Some, None, Option, sym, refl, ap, ◌∙◌, subst, ap₂, append-nil, arith}
-use mathlib.Core.List.{head-eq_of_cons-eq, tail-eq_of_cons-eq}
+use Rattle.std.proofs.Common.{◌≡◌, ℕ, zero, suc, ◌+◌, ◌<◌, ◌≤◌, Bool, true, false, ◌||◌, eqb, List, [], ◌∷◌, ◌++◌, length, take, drop, None, sym, refl, ap, ◌∙◌, subst, ap₂, append-nil, arith}
+use mathlib.Core.List.{head-eq_of_cons-eq}
 use Rattle.std.proofs.lemmas.List.{length-take-le, length-drop, length-append, drop_at}
 use Rattle.std.proofs.lemmas.Bool.Decides.{nat_tests}
 use Rattle.fault.specs.declared.rules.Rule.{Rule}
 use Rattle.fault.specs.declared.rules.Rule.TheVariants.{NoToken, TokenTooLarge}
 use Rattle.words.specs.Letters.{letter, digit, feed, blank}
-use Rattle.words.specs.Lexing.{Spot, Scan, Scan.found, Scan.ended, Scan.faulty, place, further, taken, skipped, token_at, next, followed, tokens_in, tokens_from, tokens, end_from}
-use Rattle.words.specs.Reading.{Spells, Fits, Longest, NoneBegins, Begins, along, newline, EveryTextIsScanned, OneListOfTokens}
+use Rattle.words.specs.Lexing.{Spot, Scan, Scan.found, Scan.ended, Scan.faulty, place, further, taken, skipped, token_at, next, followed, tokens_in, tokens_from, end_from}
+use Rattle.words.specs.Reading.{Spells, Fits, NoneBegins, Begins, along, newline, EveryTextIsScanned, OneListOfTokens}
 use Rattle.words.specs.Reading.{Scanned, Scanned.finished, Scanned.line_passed, Scanned.blank_passed, Scanned.token_read, Scanned.token_too_large, Scanned.no_token}
 use Rattle.words.specs.Spelling.{pair_of, single_of}
 use Rattle.words.specs.Tokens.{Bytes, Place, Terminal, Token, Token.◌at◌, Terminal.broken}
 use Rattle.words.proofs.Fronts.{Meet, Meet.longer, Meet.shorter, meet}
 use Rattle.words.proofs.Scans.{Found, Found.at_end, Found.token_there, Found.too_large, Found.none_there, Other, other_whole, spot_at, token_found}
-use Rattle.words.proofs.Terminals.{as_symbol, symbol_whole, terminal_of, spelt_is, one_terminal}
+use Rattle.words.proofs.Terminals.{as_symbol, terminal_of, spelt_is, one_terminal}
 
 -- a token has a byte at least
 some_spelt : (t : Terminal) (s : Bytes) → Spells t s → 0 < length s

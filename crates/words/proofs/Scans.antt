@@ -1,5 +1,5 @@
 -- What the scanner finds at a spot is the longest token there, or the fault that the rules name.
-use Rattle.std.proofs.Common.{◌≡◌, ℕ, zero, suc, ◌+◌, ◌-◌, ◌<◌, ◌≤◌, Bool, true, false, cond, ◌&&◌, ◌||◌, eqb, leb, List, [], ◌∷◌, ◌++◌, length, get_or, take, drop, Some, None, Option, sym, refl, ap, ◌∙◌, subst, ap₂, append_assoc, append-nil, add-one, arith}
+use Rattle.std.proofs.Common.{◌≡◌, ℕ, zero, suc, ◌+◌, ◌-◌, ◌<◌, ◌≤◌, Bool, true, false, cond, ◌&&◌, eqb, leb, [], ◌∷◌, ◌++◌, length, get_or, take, drop, Some, None, Option, sym, refl, ap, ◌∙◌, subst, ap₂, append_assoc, add-one, arith}
 use mathlib.Core.List.{head-eq_of_cons-eq, tail-eq_of_cons-eq}
 use Rattle.std.proofs.lemmas.List.{take-append-drop, get_or_at, length-take-le, length-drop}
 use Rattle.std.proofs.lemmas.Bool.Decides.{nat_tests}
@@ -14,12 +14,12 @@ use Rattle.words.specs.declared.keywords.Keyword.TheVariants as keyword
 use Rattle.words.specs.declared.symbols.Symbol.{Symbol}
 use Rattle.words.specs.declared.symbols.Symbol.TheVariants as symbol
 use Rattle.words.specs.Letters.{letter, digit, name_byte, plain, run, every}
-use Rattle.words.specs.Lexing.{Spot, Scan, Scan.found, Scan.ended, Scan.faulty, place, further, taken, keyword_terminal, symbol_terminal, word_or_name, name_at, integer_at, string_at, symbol_scan, sign_at, token_at}
+use Rattle.words.specs.Lexing.{Spot, Scan, Scan.ended, Scan.faulty, taken, symbol_terminal, word_or_name, name_at, integer_at, string_at, symbol_scan, sign_at, token_at}
 use Rattle.words.specs.Numbers.{value_of}
-use Rattle.words.specs.Reading.{keyword_spelling, symbol_spelling, Named, Spells, Fits, Longest, NoneBegins, Begins}
-use Rattle.words.specs.Spelling.{keyword_of, pair_of, single_of, Front, Front.sign_then, Front.no_sign, before, symbol_at}
-use Rattle.words.specs.Tokens.{Bytes, Place, Terminal, Token.◌at◌}
-use Rattle.words.specs.Tokens.{Terminal.word, Terminal.domain, Terminal.logic, Terminal.truth, Terminal.sign, Terminal.comparison, Terminal.sum, Terminal.product, Terminal.name, Terminal.integer, Terminal.string, Terminal.broken}
+use Rattle.words.specs.Reading.{symbol_spelling, Named, Spells, Fits, Longest, NoneBegins, Begins}
+use Rattle.words.specs.Spelling.{keyword_of, pair_of, single_of, Front.sign_then, Front.no_sign, before}
+use Rattle.words.specs.Tokens.{Bytes, Place, Terminal}
+use Rattle.words.specs.Tokens.{Terminal.integer, Terminal.string}
 use Rattle.words.proofs.Fronts.{run_within, run_belongs, run_stops, run_at, not_every}
 use Rattle.words.proofs.Terminals.{closed, as_string, as_symbol, symbol_whole, when, terminal_of, nothing_left, prepended, keyword_spelt, none_spelt, keyword_short, closed_is, spelt_is}
 

@@ -1,5 +1,5 @@
 -- The value of digits: it only grows as digits follow.
-use Rattle.std.proofs.Common.{◌≡◌, ℕ, ◌+◌, ◌-◌, ◌*◌, ◌≤◌, cond, leb, List, [], ◌∷◌, length, get_or, Some, None, Option, arith}
+use Rattle.std.proofs.Common.{◌≡◌, ℕ, ◌+◌, ◌-◌, ◌*◌, ◌≤◌, cond, leb, List, [], ◌∷◌, length, get_or, Some, None, arith}
 use Rattle.std.proofs.lemmas.Bool.Decides.{nat_tests}
 use Rattle.words.specs.Numbers.{value_on, value_of, value_within}
 

@@ -1,5 +1,5 @@
 -- The classes of bytes that tokens are made of.
-use Rattle.std.specs.Prelude.{ℕ, ◌+◌, Bool, true, false, not, ◌&&◌, ◌||◌, List, [], ◌∷◌, ◌==◌, nat_le}
+use Rattle.std.specs.Prelude.{ℕ, ◌+◌, Bool, true, false, not, ◌&&◌, ◌||◌, [], ◌∷◌, ◌==◌, nat_le}
 use Rattle.words.specs.Tokens.{Bytes}
 use Rattle.words.specs.declared.letters.Class.{Class}
 use Rattle.words.specs.declared.letters.Class.TheVariants.{Naming, Counting, Quoted}

@@ -1,5 +1,5 @@
 -- Integers as a script writes them: digits, of which those in front may be zeros.
-use Rattle.std.specs.Prelude.{ℕ, ◌+◌, ◌-◌, ◌*◌, cond, List, [], ◌∷◌, Some, None, Option, nat_le}
+use Rattle.std.specs.Prelude.{ℕ, ◌+◌, ◌-◌, ◌*◌, cond, [], ◌∷◌, Some, None, Option, nat_le}
 use Rattle.words.specs.Tokens.{Bytes}
 
 -- the value of digits that follow others of the value v

@@ -1,6 +1,6 @@
 -- What the words of a text are, in the subject's own terms: spelling, the longest token, the limits.
 -- The scanner of Lexing.antt is proved to find exactly what this page says.
-use Rattle.std.specs.Prelude.{◌≡◌, ℕ, ◌+◌, ◌<◌, ◌≤◌, Bool, true, false, ◌||◌, List, [], ◌∷◌, ◌++◌, length, codes}
+use Rattle.std.specs.Prelude.{◌≡◌, ℕ, ◌+◌, ◌<◌, ◌≤◌, true, false, ◌||◌, List, [], ◌∷◌, ◌++◌, length, codes}
 use Rattle.domain.specs.Domains as domains
 use Rattle.fault.specs.Limits.{name_bytes, string_bytes, integer_max}
 use Rattle.fault.specs.declared.rules.Rule.TheVariants.{NoToken, TokenTooLarge}

@@ -1,19 +1,12 @@
 -- How words and signs are spelt: the 26 words and the 19 signs, each once.
-use Rattle.std.specs.Prelude.{ℕ, Bool, true, false, cond, ◌&&◌, List, [], ◌∷◌, Some, None, codes, Option, ◌==◌}
+use Rattle.std.specs.Prelude.{ℕ, true, false, cond, ◌&&◌, [], ◌∷◌, Some, None, codes, Option, ◌==◌}
 use Rattle.std.specs.Str.{bytes_eq}
-use Rattle.domain.specs.declared.Domain.{Domain}
 use Rattle.domain.specs.declared.Domain.TheVariants.{Integer, String, Boolean}
-use Rattle.words.specs.declared.tokens.Word.{Word}
 use Rattle.words.specs.declared.tokens.Word.TheVariants.{Program, End, Table, If, Then, Else, While, Do, Read, Write, Join, Not, Project, Select, Exists, All, Update, Extend, Rename}
-use Rattle.words.specs.declared.tokens.Logic.{Logic}
 use Rattle.words.specs.declared.tokens.Logic.TheVariants.{And, Or}
-use Rattle.words.specs.declared.tokens.Comparison.{Comparison}
 use Rattle.words.specs.declared.tokens.Comparison.TheVariants.{Equal, NotEqual, Greater, GreaterEqual, Less, LessEqual}
-use Rattle.words.specs.declared.tokens.Sum.{Sum}
 use Rattle.words.specs.declared.tokens.Sum.TheVariants.{Plus, Minus}
-use Rattle.words.specs.declared.tokens.Product.{Product}
 use Rattle.words.specs.declared.tokens.Product.TheVariants.{Times, Divide}
-use Rattle.words.specs.declared.tokens.Sign.{Sign}
 use Rattle.words.specs.declared.tokens.Sign.TheVariants.{LeftParenthesis, RightParenthesis, LeftBracket, RightBracket, LeftBrace, RightBrace, Semicolon, Comma, Assign}
 use Rattle.words.specs.declared.keywords.Keyword.{Keyword}
 use Rattle.words.specs.declared.keywords.Keyword.TheVariants as keyword

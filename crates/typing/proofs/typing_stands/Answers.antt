@@ -1,4 +1,3 @@
-use Rattle.std.proofs.Common.{rules}
 use Rattle.typing.proofs.Exactness.{expressions_exact, statements_exact, programs_exact}
 use Rattle.typing.proofs.Nesting.{widths_fit, never_full}
 use Rattle.typing.proofs.Specimens.{specimens_stand}

@@ -1,4 +1,4 @@
-use Rattle.std.proofs.Common.{◌≡◌, [], ◌∷◌, map, Ok, Err, sym, ap, ◌∙◌, rules}
+use Rattle.std.proofs.Common.{[], ◌∷◌, map, Ok, Err, ap, ◌∙◌}
 use Rattle.schema.specs.Columns.{column_of}
 use Rattle.scope.specs.Chains.{find}
 use Rattle.typing.specs.Environments.{is_column}

@@ -1,4 +1,4 @@
-use Rattle.std.proofs.Common.{◌≡◌, map, Some, Ok, Err, sym, ap, ◌∙◌, rules}
+use Rattle.std.proofs.Common.{map, Some, Err, sym, ap, ◌∙◌}
 use Rattle.schema.specs.Columns.{column_of, held}
 use Rattle.typing.specs.Tables.{meets_in}
 use Rattle.inference.proofs.Steps.{column_crowded, column_old, column_new}

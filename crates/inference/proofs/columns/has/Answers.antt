@@ -1,4 +1,3 @@
-use Rattle.std.proofs.Common.{rules}
 use Rattle.inference.proofs.Meeting.{has_some, has_none}
 use Rattle.inference.proofs.columns.has.Goals as goal
 

@@ -1,4 +1,4 @@
-use Rattle.std.proofs.Common.{◌≡◌, map, Ok, Err, sym, ap, ◌∙◌, ap₂, rules}
+use Rattle.std.proofs.Common.{map, Err, sym, ap, ◌∙◌, ap₂}
 use Rattle.schema.specs.Columns.{column_of, held}
 use Rattle.typing.specs.Tables.{meet}
 use Rattle.inference.proofs.Steps.{join_crowded, join_common, join_all}

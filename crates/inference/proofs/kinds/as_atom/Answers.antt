@@ -1,4 +1,4 @@
-use Rattle.std.proofs.Common.{◌≡◌, Ok, Err, sym, ap, ◌∙◌, rules}
+use Rattle.std.proofs.Common.{Err, sym, ap, ◌∙◌}
 use Rattle.inference.proofs.Steps.{ask_yes, ask_no}
 use Rattle.inference.proofs.kinds.as_atom.Goals as goal
 

@@ -1,4 +1,4 @@
-use Rattle.std.proofs.Common.{◌≡◌, Ok, Err, sym, ap, ◌∙◌, rules}
+use Rattle.std.proofs.Common.{Err, sym, ap, ◌∙◌}
 use Rattle.schema.specs.Kinds.{type_of}
 use Rattle.inference.specs.Views.{place_of}
 use Rattle.typing.specs.Checker.{columns_of}

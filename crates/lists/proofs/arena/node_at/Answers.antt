@@ -1,4 +1,4 @@
-use Rattle.std.proofs.Common.{arith, rules}
+use Rattle.std.proofs.Common.{arith}
 use Rattle.lists.proofs.Fitting.{node_outside}
 use Rattle.lists.proofs.arena.node_at.Goals as goal
 

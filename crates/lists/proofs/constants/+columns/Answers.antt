@@ -1,4 +1,4 @@
-use Rattle.std.proofs.Common.{◌≡◌, sym, ap, ◌∙◌, rules}
+use Rattle.std.proofs.Common.{ap, ◌∙◌}
 use Rattle.schema.specs.Columns.{held}
 use Rattle.schema.specs.Building.{held_by}
 use Rattle.lists.specs.Elements.{domain_said}

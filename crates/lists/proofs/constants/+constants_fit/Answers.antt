@@ -1,4 +1,4 @@
-use Rattle.std.proofs.Common.{◌≡◌, sym, ap, ◌∙◌, arith, rules}
+use Rattle.std.proofs.Common.{arith}
 use Rattle.std.proofs.lemmas.Bool.Decides.{nat_tests}
 use Rattle.lists.proofs.Fitting.{fit_not, fit_more, fit_end, fit_empty}
 use Rattle.lists.proofs.constants.+constants_fit.Goals as goal

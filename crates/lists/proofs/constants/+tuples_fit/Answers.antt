@@ -1,4 +1,4 @@
-use Rattle.std.proofs.Common.{◌≡◌, Ok, Err, sym, ap, ◌∙◌, rules}
+use Rattle.std.proofs.Common.{Err, ap, ◌∙◌}
 use Rattle.fault.specs.declared.rules.Rule.TheVariants.{OperandMismatch}
 use Rattle.typing.specs.Environments.{fault}
 use Rattle.tree.specs.Holds.{said}

@@ -1,4 +1,4 @@
-use Rattle.std.proofs.Common.{arith, rules}
+use Rattle.std.proofs.Common.{arith}
 use Rattle.lists.proofs.Counting.{count_none, count_more, count_end}
 use Rattle.lists.proofs.names.+as_many.Goals as goal
 

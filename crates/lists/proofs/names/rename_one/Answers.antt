@@ -1,9 +1,9 @@
-use Rattle.std.proofs.Common.{◌≡◌, sym, ap, ◌∙◌, ap₂, rules}
+use Rattle.std.proofs.Common.{ap, ◌∙◌, ap₂}
 use Rattle.schema.specs.Columns.{held, schema_of}
 use Rattle.schema.specs.Building.{nth}
 use Rattle.typing.specs.Checker.{with_column}
 use Rattle.tree.specs.Holds.{said}
-use Rattle.lists.proofs.Counting.{no_column_left, no_name_here, renamed_here}
+use Rattle.lists.proofs.Counting.{no_column_left, renamed_here}
 use Rattle.lists.proofs.names.rename_one.Goals as goal
 
 pub returns-in-None : goal.returns-in-None

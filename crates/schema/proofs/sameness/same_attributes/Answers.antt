@@ -1,4 +1,4 @@
-use Rattle.std.proofs.Common.{◌≡◌, ◌-◌, ◌≤◌, length, take, drop, sym, ◌∙◌, arith, rules}
+use Rattle.std.proofs.Common.{sym, ◌∙◌, arith}
 use Rattle.std.proofs.lemmas.Bool.Decides.{nat_tests}
 use Rattle.schema.proofs.Fronts.{rest_shorter, same_next, same_ended, same_short}
 use Rattle.schema.proofs.sameness.same_attributes.Goals.{in_default, in_default-2}

@@ -1,4 +1,4 @@
-use Rattle.std.proofs.Common.{◌≡◌, map, sym, ◌∙◌, ap₂, rules}
+use Rattle.std.proofs.Common.{◌≡◌, map, ◌∙◌, ap₂}
 use Rattle.schema.specs.Columns.{column_of, schema_of}
 use Rattle.schema.specs.Sameness.{same_columns}
 use Rattle.schema.proofs.Sames.{schema_decided}

@@ -1,4 +1,3 @@
-use Rattle.std.proofs.Common.{rules}
 use Rattle.schema.proofs.Sames.{type_decided}
 use Rattle.schema.proofs.sameness.same_type.Goals as goal
 

@@ -1,5 +1,5 @@
 -- What is left of the text gives the whole run.
-use Rattle.std.proofs.Common.{◌≡◌, ◌+◌, ◌≤◌, length}
+use Rattle.std.proofs.Common.{◌≡◌, ◌+◌, length}
 use Rattle.words.specs.Letters.{run, belongs}
 use Rattle.words.proofs.letters.run_length.Given as goal
 

@@ -1,9 +1,9 @@
-use Rattle.std.proofs.Common.{◌≡◌, ◌≤◌, length, sym, ap, ◌∙◌, arith, rules}
+use Rattle.std.proofs.Common.{◌≤◌, length, ap, ◌∙◌, arith}
 use Rattle.fault.specs.Limits.{columns}
 use Rattle.std.proofs.lemmas.Bool.Decides.{nat_tests}
 use Rattle.schema.specs.Columns.{held}
 use Rattle.schema.specs.Building.{with_all}
-use Rattle.schema.proofs.Growing.{grown_front, full_front, added, front_length}
+use Rattle.schema.proofs.Growing.{grown_front, added, front_length}
 use Rattle.schema.proofs.schemas.Schema.append.Goals as goal
 
 pub loop-left-preserved : goal.loop-left-preserved

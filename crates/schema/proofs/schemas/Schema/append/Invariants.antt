@@ -1,4 +1,4 @@
-use Rattle.std.proofs.Common.{◌≡◌, ◌≤◌, length}
+use Rattle.std.proofs.Common.{◌≡◌, length}
 use Rattle.schema.specs.Columns.{held}
 use Rattle.schema.specs.Building.{with_all}
 use Rattle.schema.proofs.schemas.Schema.append.Given as goal

@@ -1,4 +1,4 @@
-use Rattle.std.proofs.Common.{arith, rules}
+use Rattle.std.proofs.Common.{arith}
 use Rattle.schema.proofs.Growing.{nth_front}
 use Rattle.schema.proofs.schemas.Schema.get.Goals as goal
 

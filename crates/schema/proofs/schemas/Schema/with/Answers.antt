@@ -1,4 +1,4 @@
-use Rattle.std.proofs.Common.{arith, rules}
+use Rattle.std.proofs.Common.{arith}
 use Rattle.fault.specs.Limits.{columns}
 use Rattle.schema.proofs.Growing.{one_more}
 use Rattle.schema.proofs.schemas.Schema.with.Goals as goal

@@ -1,4 +1,4 @@
-use Rattle.std.proofs.Common.{arith, rules}
+use Rattle.std.proofs.Common.{arith}
 use Rattle.fault.specs.Limits.{depth}
 use Rattle.schema.proofs.Growing.{one_more}
 use Rattle.scope.proofs.starts.Starts.with.Goals as goal
