@@ -18,13 +18,13 @@ import sys
 WORD = re.compile(r'[^\s(){}.;,@"«»]+')
 QUIET = re.compile(r'"(?:[^"\\\n]|\\.)*"|(?<![^\s(){}.;,@"«»])--[^\n]*|\{-.*?-\}', re.S)
 SPAN = re.compile(r"`[^`\n]*`")
-USE = re.compile(r"\buse +([^\s{};]+?)(?:\.\{([^}]*)\})?(?: as ([^\s;]+))?(?=\s|;|$)")
+USE = re.compile(r"(?<![\w-])use +([^\s{};]+?)(?:\.\{([^}]*)\})?(?: as ([^\s;]+))?(?=\s|;|$)")
 DECLARED = re.compile(r"(?m)^( *)((?:(?:pub|abbrev|unfoldable|record|data) +)*)((?:[^\s(){}.;,@\"«»]+ )*?[^\s(){}.;,@\"«»]+)((?: \{[^{}\n]*\}| \([^()\n]*\))*) :(?= |$)(.*)")
 CLAUSE = re.compile(r"(?:requires|ensures)\*?\s*(?:\w+\s*)?\{|ghost\s+\w+\s*(?::|=)\s*(?:\w+\s+)?\{|ghost\s*\{")
 GENERATED = re.compile(r"^Rattle\.\w+\.(specs\.declared|proofs\.(?:.*\.)?(?:Goals|Given))(\.|$)")
 
 # Names that a list of constructors or an `as` declares, where the search for declarations does not see them.
-FURTHER = {"followedBy", "◌followedBy◌", "lines-in-use", "listLevel", "ntFactor", "ntStat", "nodes-limit"}
+FURTHER = {"cell-limit", "table-limit", "used-by", "followedBy", "◌followedBy◌", "lines-in-use", "listLevel", "ntFactor", "ntStat", "nodes-limit"}
 
 # A cycle of functions was named after all of them; now after what they read.
 CYCLES = {

@@ -1,5 +1,5 @@
 -- What the code of `add` has in hand on chains, as plain facts: e is the last entry, and the row has all its columns.
-use Rattle.std.proofs.Common.{◌≡◌, ℕ, ◌+◌, ◌-◌, ◌*◌, ◌<◌, ◌≤◌, Bool, true, List, [], ◌∷◌, ◌++◌, length, get_or, take, drop, set, ℤ, sym, refl, ap, ◌∙◌, ap₂, arith}
+use Rattle.std.proofs.Common.{◌≡◌, ℕ, ◌+◌, ◌-◌, ◌*◌, ◌<◌, ◌≤◌, Bool, true, List, [], ◌∷◌, ◌++◌, length, get_or, take, drop, set, ℤ, refl, ap, ◌∙◌, ap₂, arith}
 use Rattle.std.proofs.lemmas.List.{set_at, length-take-le}
 use Rattle.fault.specs.Limits.{columns}
 use Rattle.store.specs.Meaning.{Row, has}
@@ -9,9 +9,8 @@ use Rattle.directory.proofs.Keeping.{Held}
 use Rattle.directory.proofs.Growing.{last_split}
 use Rattle.directory.proofs.Adding.{last_entry, part_long, part_is, row_wide}
 use Rattle.chained.specs.Chains.{walk, step, gather, run, under, put, head_of, joined}
-use Rattle.chained.proofs.Writing.{length_put}
 use Rattle.chained.proofs.Joining.{under_front, length_joined}
-use Rattle.chained.proofs.Keeping.{Kept, held_kept, last_inside, free_inside, last_size, run_rest, write_walk, run_add, kept_add}
+use Rattle.chained.proofs.Keeping.{Kept, held_kept, last_inside, free_inside, run_rest, write_walk, run_add, kept_add}
 use Rattle.chained.proofs.Fields.{refilled, linked_as}
 
 module _ {c u f : ℕ} {es : List Entry} {cs : List ℤ} {ns : List ℕ} (k : Kept c u f es cs ns) (e : Entry) (row : Row) (n : ℕ)

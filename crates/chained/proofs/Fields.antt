@@ -1,5 +1,5 @@
 -- The chained store's fields by name, and the facts that its ghost fields are.
-use Rattle.std.proofs.Common.{◌≡◌, ℕ, ◌-◌, ◌≤◌, true, List, ◌++◌, length, take, drop, ℤ, vec_items, vec_capacity, sym, ap, ◌∙◌, ap₂}
+use Rattle.std.proofs.Common.{◌≡◌, ℕ, ◌-◌, ◌≤◌, true, List, ◌++◌, length, take, drop, ℤ, vec_items, sym, ap, ◌∙◌, ap₂}
 use Rattle.std.proofs.lemmas.List.{take_at}
 use Rattle.fault.specs.Limits as limits
 use Rattle.store.specs.Meaning.{Store}
@@ -43,10 +43,33 @@ kept p =
 -- the facts as a function that changes the store owes them
 abbrev pub Parts : ℕ → ℕ → ℕ → List Entry → List ℤ → List ℕ → ℕ → Type 0
 Parts c u f es cs ns places =
-    (sound_tables (decode es (chain.run es cs ns)) ≡ true) × ((u ≡ extent es) × ((u ≤ c) × ((c ≤ limits.cells) × ((length es ≤ limits.tables) × ((limits.tables ≤ places) × ((length cs ≡ c) × ((length ns ≡ c) × ((distinct (chains ns es (c - u) f) ≡ true) × ((under c (chains ns es (c - u) f) ≡ true) × Unit {0})))))))))
+    record {
+      sound : sound_tables (decode es (chain.run es cs ns)) ≡ true;
+      full : u ≡ extent es;
+      within : u ≤ c;
+      small : c ≤ limits.cells;
+      few : length es ≤ limits.tables;
+      places : limits.tables ≤ places;
+      room : length cs ≡ c;
+      linked : length ns ≡ c;
+      apart : distinct (chains ns es (c - u) f) ≡ true;
+      inside : under c (chains ns es (c - u) f) ≡ true;
+    }
 
 pub parts : {c u f : ℕ} {es : List Entry} {cs : List ℤ} {ns : List ℕ} {places : ℕ} → Kept c u f es cs ns → limits.tables ≤ places → Parts c u f es cs ns places
-parts k p = (k.sound, (k.full, (k.within, (k.small, (k.few, (p, (k.room, (k.linked, (k.apart, (k.inside, tt))))))))))
+parts k p =
+    record {
+      sound = k.sound;
+      full = k.full;
+      within = k.within;
+      small = k.small;
+      few = k.few;
+      places = p;
+      room = k.room;
+      linked = k.linked;
+      apart = k.apart;
+      inside = k.inside;
+    }
 
 -- what a slice leaves of the list that it was lent from
 pub refilled : {X : Type 0} (v : ℕ) (new slice old : List X) → length new ≡ length slice → slice ≡ old → v ≡ length old → take v (new ++ drop (length new) old) ≡ new

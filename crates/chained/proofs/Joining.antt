@@ -1,13 +1,13 @@
 -- Two chains joined: what is on the joined chain, and that all other chains stay as they are.
-use Rattle.std.proofs.Common.{◌≡◌, ℕ, zero, suc, ◌+◌, ◌-◌, ◌<◌, ◌≤◌, Bool, true, false, not, ◌&&◌, eqb, ltb, List, [], ◌∷◌, ◌++◌, length, get_or, set, sym, refl, ap, ◌∙◌, subst, ap₂, zero-add, arith}
+use Rattle.std.proofs.Common.{◌≡◌, ℕ, zero, suc, ◌+◌, ◌-◌, ◌<◌, ◌≤◌, true, not, eqb, ltb, List, [], ◌∷◌, ◌++◌, length, set, sym, refl, ap, ◌∙◌, subst, ap₂, zero-add, arith}
 use Rattle.std.proofs.lemmas.Bool.{and_from, and_parts}
 use Rattle.std.proofs.lemmas.List.{append_assoc, length-set, length-append}
 use Rattle.directory.specs.Run.{extent_of, extent}
 use Rattle.directory.specs.declared.entry.Entry.{Entry}
 use Rattle.chained.specs.Chains.{walk, step, places, absent, distinct, under, head_of, joined}
-use Rattle.chained.proofs.Walks.{walk_add, step_add, length_walk, step_under}
-use Rattle.chained.proofs.Writing.{cross, absent_append, under_append}
-use Rattle.chained.proofs.Stretches.{Seg, seg_of, seg_join, seg_frame, seg_relink, walk_frame, cross_last, cross_append, Four, four}
+use Rattle.chained.proofs.Walks.{walk_add, length_walk, step_under}
+use Rattle.chained.proofs.Writing.{cross, under_append}
+use Rattle.chained.proofs.Stretches.{Seg, seg_of, seg_join, seg_frame, seg_relink, walk_frame, cross_last, cross_append, four}
 
 -- What the code of `join` does.
 

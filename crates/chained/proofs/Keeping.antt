@@ -1,22 +1,19 @@
 -- What always holds of the chained store's fields, and that each call keeps it. What the directory says of a run does the rest.
-use Rattle.std.proofs.Common.{◌≡◌, ℕ, zero, suc, ◌+◌, ◌-◌, ◌*◌, ◌<◌, ◌≤◌, Bool, true, false, List, [], ◌∷◌, ◌++◌, length, get_or, take, drop, set, ℤ, pos, sym, refl, ap, ◌∙◌, subst, ap₂, add-mul, one-mul, zero-mul, arith}
+use Rattle.std.proofs.Common.{◌≡◌, ℕ, ◌+◌, ◌-◌, ◌*◌, ◌<◌, ◌≤◌, true, List, [], ◌∷◌, ◌++◌, length, take, drop, ℤ, sym, refl, ap, ◌∙◌, ap₂, add-mul, one-mul, zero-mul, arith}
 use Rattle.std.specs.List.{range_with_len}
 use Rattle.std.proofs.lemmas.List.FromFn.{length-range_with_len}
-use Rattle.std.proofs.lemmas.List.{take_at, drop_at, length-append, append_assoc, append-nil, get_or-map, drop_more, take-append-drop, set_at, length-take-le}
+use Rattle.std.proofs.lemmas.List.{take_at, drop_at, length-append, append_assoc, append-nil}
 use Rattle.fault.specs.Limits.{columns, tables, cells}
 use Rattle.store.specs.Meaning.{Row}
 use Rattle.store.specs.Sound.{sound_tables}
 use Rattle.directory.specs.Run.{extent, extent_of, decode}
 use Rattle.directory.specs.declared.entry.Entry.{Entry}
-use Rattle.directory.proofs.Decoding.{extent_append}
 use Rattle.directory.proofs.Keeping.{Held, held_open, held_drop, extent_open, extent_drop}
-use Rattle.directory.proofs.Growing.{last_split, extent_add}
-use Rattle.directory.proofs.Settling.{Split, split, cells_after, decode_settle, held_settle}
 use Rattle.chained.specs.Chains.{walk, step, places, chains, gather, run, distinct, under, put, head_of, joined}
-use Rattle.chained.proofs.Walks.{walk_counting, distinct_counting, under_counting, length_walk, length_gather, walk_add, step_add, gather_append, get_d_walk, step_under}
+use Rattle.chained.proofs.Walks.{walk_counting, distinct_counting, under_counting, length_walk, length_gather, walk_add, gather_append}
 use Rattle.chained.proofs.Writing.{cross, gather_added, length_put, under_append}
 use Rattle.chained.proofs.Stretches.{Four, four, cross_append}
-use Rattle.chained.proofs.Joining.{places_append, length_places, length_joined, under_front, join_chain, join_walk, join_places, swap_distinct, swap_under}
+use Rattle.chained.proofs.Joining.{places_append, length_places, length_joined, join_chain, join_walk, join_places}
 
 -- the facts, of fields that are plain lists and numbers
 pub record Kept (c u f : ℕ) (es : List Entry) (cs : List ℤ) (ns : List ℕ) : Type 0 where

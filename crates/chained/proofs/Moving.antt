@@ -2,11 +2,9 @@
 use Rattle.std.proofs.Common.{◌≡◌, ℕ, ◌+◌, ◌-◌, ◌<◌, ◌≤◌, true, List, [], ◌∷◌, ◌++◌, length, get_or, take, set, ℤ, sym, refl, ap, ◌∙◌, ap₂, arith}
 use Rattle.std.proofs.lemmas.List.{append_assoc, append-nil, length-append, set_at, take_at}
 use Rattle.store.specs.Meaning.{last_table, last_place}
-use Rattle.store.specs.Sound.{sound_tables}
 use Rattle.directory.specs.Run.{extent, extent_of, decode, laid}
 use Rattle.directory.specs.declared.entry.Entry.{Entry}
 use Rattle.directory.proofs.Decoding.{extent_append}
-use Rattle.directory.proofs.Keeping.{Held}
 use Rattle.directory.proofs.Settling.{Split, split, cells_after, decode_settle, held_settle}
 use Rattle.chained.specs.Chains.{walk, places, chains, gather, run, distinct, under, head_of, joined}
 use Rattle.chained.proofs.Walks.{length_walk, length_gather, gather_append}

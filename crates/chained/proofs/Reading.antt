@@ -1,10 +1,10 @@
 -- A cell of a table, by its place on the table's own chain.
-use Rattle.std.proofs.Common.{◌≡◌, ℕ, ◌+◌, ◌-◌, ◌*◌, ◌<◌, ◌≤◌, true, List, ◌∷◌, ◌++◌, length, get_or, take, drop, ℤ, pos, sym, ap, ◌∙◌, subst, ap₂, add_assoc, mul_comm, arith}
+use Rattle.std.proofs.Common.{◌≡◌, ℕ, ◌+◌, ◌-◌, ◌*◌, ◌<◌, true, List, ◌∷◌, ◌++◌, length, get_or, take, drop, ℤ, pos, sym, ap, ◌∙◌, subst, ap₂, mul_comm, arith}
 use Rattle.std.proofs.lemmas.Nat.{mul-add-lt}
 use Rattle.std.proofs.lemmas.List.{take-append-drop, drop_more, get_or-append-add, get_or_append_left, get_or-map}
 use Rattle.directory.specs.Run.{extent, extent_of}
 use Rattle.directory.specs.declared.entry.Entry.{Entry}
-use Rattle.chained.specs.Chains.{walk, step, places, chains, gather, run, under}
+use Rattle.chained.specs.Chains.{walk, step, places, gather, run, under}
 use Rattle.chained.proofs.Walks.{length_walk, length_gather, gather_append, get_d_walk, step_under}
 use Rattle.chained.proofs.Writing.{under_append}
 use Rattle.chained.proofs.Joining.{places_append, length_places, under_front}

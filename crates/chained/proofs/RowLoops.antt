@@ -1,10 +1,10 @@
 -- Loops along a chain: comparing a row, searching for one, writing one.
-use Rattle.std.proofs.Common.{◌≡◌, ℕ, zero, suc, ◌+◌, ◌-◌, ◌*◌, ◌<◌, ◌≤◌, Bool, true, false, ◌&&◌, ◌||◌, List, [], ◌∷◌, ◌++◌, length, get_or, take, drop, set, ℤ, pos, sym, refl, ap, ◌∙◌, subst, ap₂, add-mul, one-mul, arith}
+use Rattle.std.proofs.Common.{◌≡◌, ℕ, suc, ◌+◌, ◌-◌, ◌*◌, ◌<◌, ◌≤◌, Bool, true, false, ◌&&◌, ◌||◌, List, [], ◌∷◌, ◌++◌, length, get_or, take, drop, set, ℤ, pos, sym, refl, ap, ◌∙◌, ap₂, add-mul, one-mul, arith}
 use Rattle.std.proofs.lemmas.List.{drop_more, drop_all, take_more, take_at, drop_at, length-take-le}
 use Rattle.store.specs.Meaning.{same_cell, same_row, has}
 use Rattle.directory.specs.Run.{chunk}
 use Rattle.chained.specs.Chains.{walk, step, gather, under, put}
-use Rattle.chained.proofs.Walks.{walk_next, walk_add, step_add, length_walk, length_gather, gather_append, step_under}
+use Rattle.chained.proofs.Walks.{walk_next, walk_add, step_add, length_walk, length_gather, gather_append}
 use Rattle.chained.proofs.Writing.{under_append, put_more}
 use Rattle.store.proofs.Rows.{same_cell_refl, same_cell_true}
 

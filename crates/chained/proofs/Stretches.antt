@@ -1,10 +1,10 @@
 -- Stretches of a chain: what a new link changes, and two neighbours exchanged.
-use Rattle.std.proofs.Common.{◌≡◌, ℕ, zero, suc, ◌+◌, ◌-◌, ◌<◌, ◌≤◌, Bool, true, false, not, ◌&&◌, eqb, ltb, List, [], ◌∷◌, ◌++◌, length, get_or, set, sym, refl, ap, ◌∙◌, subst, ap₂, suc-add, zero-add, arith}
+use Rattle.std.proofs.Common.{◌≡◌, ℕ, zero, suc, ◌+◌, ◌<◌, true, not, eqb, List, [], ◌∷◌, ◌++◌, length, get_or, set, sym, refl, ap, ◌∙◌, subst, ap₂, arith}
 use Rattle.std.proofs.lemmas.Bool.{and_from, and_parts, not-true, eqb-false}
-use Rattle.std.proofs.lemmas.List.{get_or-set_same, get_or-set_other, length-set}
-use Rattle.chained.specs.Chains.{walk, step, absent, distinct, under}
-use Rattle.chained.proofs.Walks.{walk_add, step_add, length_walk}
-use Rattle.chained.proofs.Writing.{cross, absent_append, distinct_append, distinct_front, under_append}
+use Rattle.std.proofs.lemmas.List.{get_or-set_same, get_or-set_other}
+use Rattle.chained.specs.Chains.{walk, step, absent, distinct}
+use Rattle.chained.proofs.Walks.{walk_add, step_add}
+use Rattle.chained.proofs.Writing.{cross, absent_append, distinct_append, distinct_front}
 
 -- n places from i are the list is, and the chain goes on at j
 pub record Seg (ns : List ℕ) (n i : ℕ) (is : List ℕ) (j : ℕ) : Type 0 where

@@ -1,1 +1,2 @@
+pub mod ChainedSound
 pub mod Chains

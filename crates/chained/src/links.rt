@@ -1,14 +1,14 @@
 // Chains of cells: how they are made, followed and joined. A chain has no end mark; whoever follows it knows how long it is.
 ghost use Rattle.std.specs.Prelude.{◌≡◌, ◌≤◌, true, length, IfOk};
 ghost use Rattle.std.specs.List.{range_with_len};
-ghost use Rattle.fault.specs.Limits.{cells as cell-limit};
+ghost use Rattle.fault.specs.Limits.{cells as cell_limit};
 ghost use Rattle.chained.specs.Chains.{walk, step, under, head_of, joined};
 
 use std::alloc::{AllocError, Global};
 
 // Links for so many cells, each to the one after it.
 pub(crate) fn free_chain(heap: Global, size: u16) -> Result<Vec<u16>, AllocError>
-    requires { size ≤ cell-limit }
+    requires { size ≤ cell_limit }
     ensures { IfOk result (λ v. v.items ≡ range_with_len 1 size) }
 {
     let mut links = Vec::new(heap);

@@ -1,10 +1,10 @@
 // The chained store's fields, what always holds of them, and the calls.
 ghost use Rattle.std.specs.Prelude.{◌≡◌, ◌-◌, ◌≤◌, min, true, [], length, IfOk, vec_capacity};
-ghost use Rattle.fault.specs.Limits.{cells as cell-limit, tables as table-limit};
+ghost use Rattle.fault.specs.Limits.{cells as cell_limit, tables as table_limit};
 ghost use Rattle.store.specs.Sound.{sound_tables};
 ghost use Rattle.directory.specs.Run.{extent, decode};
 ghost use Rattle.chained.specs.Chains.{run, chains, chained, distinct, under};
-ghost use Rattle.std.proofs.Common.{rules, arith};
+ghost use Rattle.chained.specs.ChainedSound.{chained_sound};
 
 use crate::links::{after, free_chain, join};
 use crate::rows::{has_row, write_row};
@@ -26,9 +26,9 @@ pub struct Chained {
     ghost sound: { sound_tables (decode tables.items (run tables.items cells.items links.items)) ≡ true },
     ghost full: { used ≡ extent tables.items },
     ghost within: { used ≤ capacity },
-    ghost small: { capacity ≤ cell-limit },
-    ghost few: { length tables.items ≤ table-limit },
-    ghost places: { table-limit ≤ vec_capacity tables },
+    ghost small: { capacity ≤ cell_limit },
+    ghost few: { length tables.items ≤ table_limit },
+    ghost places: { table_limit ≤ vec_capacity tables },
     ghost room: { length cells.items ≡ capacity },
     ghost linked: { length links.items ≡ capacity },
     // the chains of the tables and the free chain share no cell
@@ -40,7 +40,7 @@ pub struct Chained {
 impl Chained {
     // A store without tables, over `size` cells or as many as a store may have. Nothing else allocates.
     pub fn new(heap: Global, size: usize) -> Result<Chained, AllocError>
-        ensures { IfOk result (λ p. chained p.capacity p.tables.items p.cells.items p.links.items ≡ record { capacity = min size cell-limit; tables = [] }) }
+        ensures { IfOk result (λ p. chained p.capacity p.tables.items p.cells.items p.links.items ≡ record { capacity = min size cell_limit; tables = [] }) }
     {
         let capacity = if size < CELLS { size } else { CELLS };
         let tables = Vec::with_capacity(heap, TABLES)?;
@@ -60,7 +60,7 @@ impl Chained {
 impl RowStore for Chained {
     ghost meaning = { λ p. chained p.capacity p.tables.items p.cells.items p.links.items };
 
-    ghost sound = { first_of (Prim.search rules, Prim.grind (arith, Self.row.coded.inj)) };
+    ghost sound = { λ p. chained_sound p.capacity p.used p.tables.items p.cells.items p.links.items p.sound p.full p.within p.small p.few };
 
     fn capacity(&self) -> u16 {
         self.capacity

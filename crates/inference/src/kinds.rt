@@ -31,11 +31,11 @@ fn both_atoms(left: &Kind, right: &Kind, domain: Domain) -> bool
 }
 
 // The result, if the operand is an atom of the domain.
-pub fn as_atom(kind: &Kind, domain: Domain, at: Spot, res: Kind) -> Result<Kind, Fault>
-    ensures { (text : List ℕ) → type_answer text result ≡ ask (is_atom domain (type_of text kind.now)) (failing OperandMismatch (place_of at)) (Ok (type_of text res)) }
+pub fn as_atom(kind: &Kind, domain: Domain, at: Spot, answer: Kind) -> Result<Kind, Fault>
+    ensures { (text : List ℕ) → type_answer text result ≡ ask (is_atom domain (type_of text kind.now)) (failing OperandMismatch (place_of at)) (Ok (type_of text answer)) }
 {
     if is_atom(kind, domain) {
-        Ok(res)
+        Ok(answer)
     } else {
         Err(at.fault(Rule::OperandMismatch))
     }

@@ -1,9 +1,8 @@
 -- What each call does to a ledger, as plain facts of widths and lines, against the meaning.
-use Rattle.std.proofs.Common.{◌≡◌, ℕ, zero, suc, ◌+◌, ◌-◌, ◌*◌, ◌<◌, ◌≤◌, Bool, true, false, List, [], ◌∷◌, ◌++◌, length, get_or, take, drop, set, ℤ, pos, Ok, Err, sym, refl, ap, ◌∙◌, subst, ap₂, ⊎_elim, zero-mul, arith}
+use Rattle.std.proofs.Common.{◌≡◌, ℕ, suc, ◌+◌, ◌-◌, ◌*◌, ◌<◌, ◌≤◌, Bool, true, List, [], ◌∷◌, ◌++◌, length, get_or, take, drop, set, ℤ, pos, Ok, sym, refl, ap, ◌∙◌, subst, ap₂, ⊎_elim, zero-mul, arith}
 use Rattle.std.proofs.lemmas.Bool.{cases_eq}
-use Rattle.std.proofs.lemmas.List.{same_lists, length-append, length-set, length-take-le, get_or-set_same, get_or-set_other, get_or-take, get_or_at, get_or-map, length-map, take_at, take-append-le, append-nil, map-append}
-use Rattle.fault.specs.Limits.{columns}
-use Rattle.store.specs.Meaning.{Row, Table, Store, no_table, size, used, cells_left, table_count, last_place, last_table, with_tables, opened, dropped, settled, row_for, repeats, has, cell_reply}
+use Rattle.std.proofs.lemmas.List.{same_lists, length-append, length-set, length-take-le, get_or-set_same, get_or-set_other, get_or-take, get_or_at, get_or-map, length-map, take_at, append-nil, map-append}
+use Rattle.store.specs.Meaning.{Row, Table, Store, no_table, size, used, table_count, last_place, last_table, with_tables, opened, dropped, settled, row_for, repeats, has, cell_reply}
 use Rattle.store.specs.Sound.{Sound}
 use Rattle.store.proofs.Cases.{grown, cell_told}
 use Rattle.store.proofs.Cells.{used_append, used_set, size_grown}

@@ -1,5 +1,5 @@
 -- How many lines and cells a ledger uses.
-use Rattle.std.proofs.Common.{◌≡◌, ℕ, zero, suc, ◌+◌, ◌-◌, ◌*◌, ◌<◌, ◌≤◌, Bool, true, false, cond, ◌&&◌, eqb, ltb, ◌⊎◌, List, [], ◌∷◌, ◌++◌, length, get_or, take, sym, refl, ap, ◌∙◌, inl, inr, suc-mul, arith}
+use Rattle.std.proofs.Common.{◌≡◌, ℕ, zero, suc, ◌+◌, ◌*◌, ◌<◌, ◌≤◌, Bool, true, false, cond, eqb, ltb, ◌⊎◌, List, [], ◌∷◌, length, get_or, take, sym, ap, ◌∙◌, inl, inr, suc-mul, arith}
 use Rattle.std.proofs.lemmas.List.{length-map}
 use Rattle.std.proofs.lemmas.Bool.{and_parts, ltb-true, cases_order}
 use Rattle.store.specs.Meaning.{Table, no_table, size, used}
@@ -59,15 +59,15 @@ one_more t (w ∷ ws) l ls low high wide =
     go later (inr (inl e)) = omega (arith, size_cons w t l ls, later (omega arith))
     go later (inr (inr e)) = absurd (omega arith)
 
-lines-in-use : (ws : List ℕ) (ls : List Line) → below (length ws) ls ≡ true → ((k : ℕ) → k < length ws → 1 ≤ get_or ws k 0) → length ls ≤ used (tables_of ws ls)
-lines-in-use ws [] h wide = omega arith
-lines-in-use ws (l ∷ ls) h wide =
+lines_in_use : (ws : List ℕ) (ls : List Line) → below (length ws) ls ≡ true → ((k : ℕ) → k < length ws → 1 ≤ get_or ws k 0) → length ls ≤ used (tables_of ws ls)
+lines_in_use ws [] h wide = omega arith
+lines_in_use ws (l ∷ ls) h wide =
     let p = and_parts (ltb l.table (length ws)) (below (length ws) ls) h in
-    omega (arith, one_more 0 ws l ls (omega arith) (omega (arith, ltb-true l.table (length ws) p.0)) wide, lines-in-use ws ls p.1 wide)
+    omega (arith, one_more 0 ws l ls (omega arith) (omega (arith, ltb-true l.table (length ws) p.0)) wide, lines_in_use ws ls p.1 wide)
 
 -- as every table of a sound ledger is
 pub lines_used : (ws : List ℕ) (ls : List Line) → below (length ws) ls ≡ true → sound_tables (tables_of ws ls) ≡ true → length ls ≤ used (tables_of ws ls)
-lines_used ws ls h s = lines-in-use ws ls h (λ k l. (table_good ws ls k l s).0)
+lines_used ws ls h s = lines_in_use ws ls h (λ k l. (table_good ws ls k l s).0)
 
 -- the lines of a table are as many as its rows, and no more than the cells in use
 pub rows_counted : (ws : List ℕ) (ls : List Line) (t : ℕ) → t < length ws → length (lines_of t ls) ≡ length (get_or (tables_of ws ls) t no_table).rows

@@ -1,6 +1,6 @@
 -- Which lines belong to which table, and the tables that they make.
-use Rattle.std.proofs.Common.{◌≡◌, ℕ, zero, suc, ◌+◌, ◌-◌, ◌<◌, ◌≤◌, Bool, true, false, cond, ◌&&◌, eqb, ltb, List, [], ◌∷◌, ◌++◌, length, get_or, take, set, sym, refl, ap, ◌∙◌, ap₂, ⊎_elim, add-zero, arith}
-use Rattle.std.proofs.lemmas.Bool.{and_parts, and_from, eq-eqb, ne_eqb, eqb-true, ltb-true, lt-ltb, cases_eq, cases_order}
+use Rattle.std.proofs.Common.{◌≡◌, ℕ, zero, suc, ◌+◌, ◌<◌, ◌≤◌, Bool, true, false, cond, eqb, ltb, List, [], ◌∷◌, ◌++◌, length, get_or, take, sym, refl, ap, ◌∙◌, ap₂, ⊎_elim, add-zero, arith}
+use Rattle.std.proofs.lemmas.Bool.{and_parts, and_from, eq-eqb, ne_eqb, ltb-true, lt-ltb, cases_eq, cases_order}
 use Rattle.std.proofs.lemmas.List.{length-append}
 use Rattle.fault.specs.Limits.{columns}
 use Rattle.store.specs.Meaning.{Table, no_table}
@@ -8,6 +8,7 @@ use Rattle.store.specs.Sound.{sound_tables}
 use Rattle.store.proofs.Soundness.{good, sound_at}
 use Rattle.ledger.specs.Lines.{lines_of, rows_of, numbered, tables_of, below, without, renumbered}
 use Rattle.ledger.specs.declared.line.Line.{Line}
+pub use Rattle.ledger.specs.WrittenSound.{length_numbered}
 
 -- Lines.
 
@@ -142,10 +143,6 @@ below_renumbered n to (l ∷ ls) h k = cons (and_parts (ltb l.table (suc n)) (be
         less a b = ⊎_elim (λ e. absurd (b e)) (λ e. ⊎_elim (λ x. x) (λ x. absurd (omega arith)) e) (cases_order l.table n)
 
 -- Tables.
-
-pub length_numbered : (t : ℕ) (ws : List ℕ) (ls : List Line) → length (numbered t ws ls) ≡ length ws
-length_numbered t [] ls = refl
-length_numbered t (w ∷ ws) ls = ap suc (length_numbered (t + 1) ws ls)
 
 -- the table of this number
 abbrev pub table_of : List ℕ → List Line → ℕ → Table

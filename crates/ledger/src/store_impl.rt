@@ -1,10 +1,10 @@
 // The ledger's fields, what always holds of them, and the calls.
 ghost use Rattle.std.specs.Prelude.{◌≡◌, ◌≤◌, min, true, [], length, IfOk, vec_capacity};
-ghost use Rattle.fault.specs.Limits.{cells as cell-limit, tables as table-limit};
-ghost use Rattle.store.specs.Meaning.{used as used-by};
+ghost use Rattle.fault.specs.Limits.{cells as cell_limit, tables as table_limit};
+ghost use Rattle.store.specs.Meaning.{used as used_by};
 ghost use Rattle.store.specs.Sound.{sound_tables};
 ghost use Rattle.ledger.specs.Lines.{tables_of, written, below};
-ghost use Rattle.std.proofs.Common.{rules, arith};
+ghost use Rattle.ledger.specs.WrittenSound.{written_sound};
 
 use crate::book::{count_rows, find_row, has_row, remove, renumber};
 use crate::line::Line;
@@ -21,21 +21,21 @@ pub struct Ledger {
     lines: Vec<Line>,
     // what the ledger stands for is sound
     ghost sound: { sound_tables (tables_of widths.items lines.items) ≡ true },
-    ghost counted: { used ≡ used-by (tables_of widths.items lines.items) },
+    ghost counted: { used ≡ used_by (tables_of widths.items lines.items) },
     ghost within: { used ≤ capacity },
-    ghost small: { capacity ≤ cell-limit },
-    ghost few: { length widths.items ≤ table-limit },
+    ghost small: { capacity ≤ cell_limit },
+    ghost few: { length widths.items ≤ table_limit },
     // every line belongs to a table
     ghost owned: { below (length widths.items) lines.items ≡ true },
     // what was reserved when the store was made suffices for ever
     ghost room: { capacity ≤ vec_capacity lines },
-    ghost places: { table-limit ≤ vec_capacity widths },
+    ghost places: { table_limit ≤ vec_capacity widths },
 }
 
 impl Ledger {
     // A store without tables, over `size` cells or as many as a store may have. Nothing else allocates.
     pub fn new(heap: Global, size: usize) -> Result<Ledger, AllocError>
-        ensures { IfOk result (λ p. written p.capacity p.widths.items p.lines.items ≡ record { capacity = min size cell-limit; tables = [] }) }
+        ensures { IfOk result (λ p. written p.capacity p.widths.items p.lines.items ≡ record { capacity = min size cell_limit; tables = [] }) }
     {
         let capacity = if size < CELLS { size } else { CELLS };
         let widths = Vec::with_capacity(heap, TABLES)?;
@@ -52,7 +52,7 @@ impl Ledger {
 impl RowStore for Ledger {
     ghost meaning = { λ p. written p.capacity p.widths.items p.lines.items };
 
-    ghost sound = { first_of (Prim.search rules, Prim.grind (arith, Self.row.coded.inj)) };
+    ghost sound = { λ p. written_sound p.capacity p.used p.widths.items p.lines.items p.sound p.counted p.within p.small p.few };
 
     fn capacity(&self) -> u16 {
         self.capacity

@@ -1,5 +1,5 @@
 -- The packed store's fields by name, and the facts that its ghost fields are.
-use Rattle.std.proofs.Common.{◌≡◌, ℕ, ◌≤◌, true, List, length, ℤ, vec_items, vec_capacity}
+use Rattle.std.proofs.Common.{◌≡◌, ℕ, ◌≤◌, true, List, length, ℤ, vec_items}
 use Rattle.fault.specs.Limits.{cells, tables}
 use Rattle.store.specs.Meaning.{Store}
 use Rattle.store.specs.Sound.{sound_tables}
@@ -24,7 +24,16 @@ held p = record { sound = p.sound; full = p.full; within = p.within; small = p.s
 -- the facts as a function that changes the store owes them
 abbrev pub Parts : ℕ → List Entry → List ℤ → ℕ → ℕ → Type 0
 Parts c es cs room places =
-    (sound_tables (decode es cs) ≡ true) × ((extent es ≡ length cs) × ((starts 0 es ≡ true) × ((length cs ≤ c) × ((c ≤ cells) × ((length es ≤ tables) × ((c ≤ room) × ((tables ≤ places) × Unit {0})))))))
+    record {
+      sound : sound_tables (decode es cs) ≡ true;
+      full : extent es ≡ length cs;
+      begun : starts 0 es ≡ true;
+      within : length cs ≤ c;
+      small : c ≤ cells;
+      few : length es ≤ tables;
+      room : c ≤ room;
+      places : tables ≤ places;
+    }
 
 pub parts : {c : ℕ} {es : List Entry} {cs : List ℤ} {room places : ℕ} → Held c es cs → starts 0 es ≡ true → c ≤ room → tables ≤ places → Parts c es cs room places
-parts h b r p = (h.sound, (h.full, (b, (h.within, (h.small, (h.few, (r, (p, tt))))))))
+parts h b r p = record { sound = h.sound; full = h.full; begun = b; within = h.within; small = h.small; few = h.few; room = r; places = p }

@@ -1,7 +1,7 @@
 -- How settling moves cells: two rotations and a cut.
-use Rattle.std.proofs.Common.{◌≡◌, ℕ, ◌+◌, ◌-◌, ◌<◌, ◌≤◌, true, List, [], ◌∷◌, ◌++◌, length, get_or, take, drop, set, ℤ, sym, refl, ap, ◌∙◌, ap₂, arith}
+use Rattle.std.proofs.Common.{◌≡◌, ℕ, ◌+◌, ◌-◌, ◌<◌, ◌≤◌, true, List, [], ◌++◌, length, get_or, take, drop, set, ℤ, sym, ap, ◌∙◌, ap₂, arith}
 use borrow.Rule.Slice.PartMut.{put_mid}
-use Rattle.std.proofs.lemmas.List.{append-nil, append_assoc, length-append, length-drop, length-set, length-take-le, take_at, drop_at, take_all, drop_all}
+use Rattle.std.proofs.lemmas.List.{append-nil, length-append, length-drop, length-set, length-take-le, take_at, drop_at, take_all, drop_all}
 use Rattle.fault.specs.Limits.{cells}
 use Rattle.store.specs.Meaning.{last_table, last_place}
 use Rattle.store.specs.Sound.{sound_tables}

@@ -1,6 +1,6 @@
 // How settling moves cells, and how the directory learns where the tables then begin.
 ghost use Rattle.std.specs.Prelude.{◌≡◌, ◌+◌, ◌≤◌, List, ◌++◌, length, ℤ};
-ghost use Rattle.fault.specs.Limits.{cells as cell-limit};
+ghost use Rattle.fault.specs.Limits.{cells as cell_limit};
 ghost use Rattle.directory.specs.Run.{extent};
 ghost use Rattle.packed.specs.Starts.{restarted};
 
@@ -26,7 +26,7 @@ fn swap_rest(cells: &mut [i64], from: usize, size: usize)
 
 // Sets where each table begins: one after the other, from the first cell on.
 pub(crate) fn restart(tables: &mut [Entry])
-    requires { extent tables.old ≤ cell-limit }
+    requires { extent tables.old ≤ cell_limit }
     ensures { tables.new ≡ restarted 0 tables.old }
 {
     let mut at = 0;

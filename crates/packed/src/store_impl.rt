@@ -1,10 +1,10 @@
 // The packed store's fields, what always holds of them, and the calls.
 ghost use Rattle.std.specs.Prelude.{◌≡◌, ◌≤◌, min, true, [], length, IfOk, vec_capacity};
-ghost use Rattle.fault.specs.Limits.{cells as cell-limit, tables as table-limit};
+ghost use Rattle.fault.specs.Limits.{cells as cell_limit, tables as table_limit};
 ghost use Rattle.store.specs.Sound.{sound_tables};
 ghost use Rattle.directory.specs.Run.{laid, extent, decode};
 ghost use Rattle.packed.specs.Starts.{starts};
-ghost use Rattle.std.proofs.Common.{rules, arith};
+ghost use Rattle.directory.proofs.Questions.{laid_sound};
 
 use crate::moves::{restart, settle_cells};
 use crate::searches::has_row;
@@ -26,17 +26,17 @@ pub struct Packed {
     // each entry knows where its table begins
     ghost begun: { starts 0 tables.items ≡ true },
     ghost within: { length cells.items ≤ capacity },
-    ghost small: { capacity ≤ cell-limit },
-    ghost few: { length tables.items ≤ table-limit },
+    ghost small: { capacity ≤ cell_limit },
+    ghost few: { length tables.items ≤ table_limit },
     // what was reserved when the store was made suffices for ever
     ghost room: { capacity ≤ vec_capacity cells },
-    ghost places: { table-limit ≤ vec_capacity tables },
+    ghost places: { table_limit ≤ vec_capacity tables },
 }
 
 impl Packed {
     // A store without tables, over `size` cells or as many as a store may have. Nothing else allocates.
     pub fn new(heap: Global, size: usize) -> Result<Packed, AllocError>
-        ensures { IfOk result (λ p. laid p.capacity p.tables.items p.cells.items ≡ record { capacity = min size cell-limit; tables = [] }) }
+        ensures { IfOk result (λ p. laid p.capacity p.tables.items p.cells.items ≡ record { capacity = min size cell_limit; tables = [] }) }
     {
         let capacity = if size < CELLS { size } else { CELLS };
         let tables = Vec::with_capacity(heap, TABLES)?;
@@ -52,7 +52,7 @@ impl Packed {
 impl RowStore for Packed {
     ghost meaning = { λ p. laid p.capacity p.tables.items p.cells.items };
 
-    ghost sound = { first_of (Prim.search rules, Prim.grind (arith, Self.row.coded.inj)) };
+    ghost sound = { λ p. laid_sound p.capacity p.tables.items p.cells.items (record { sound = p.sound; full = p.full; within = p.within; small = p.small; few = p.few }) };
 
     fn capacity(&self) -> u16 {
         self.capacity

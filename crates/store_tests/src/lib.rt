@@ -13,16 +13,17 @@ mod tests {
     use store::RowStore;
     use store_calls::replies;
 
-    // The replies of one store to the calls of a text.
+    // The replies of one store, of this name, to the calls of a text.
     fn expect<S: RowStore>(
         rt: &impl Abort,
         heap: Global,
+        name: &str,
         store: &mut S,
         calls: &str,
         expected: &str,
     ) -> Result<(), Fail> {
         let told = replies(heap, store, calls)?;
-        assert_eq!(rt; told.as_str(), expected);
+        assert_eq!(rt; told.as_str(), expected, "{name}");
         Ok(())
     }
 
@@ -35,11 +36,11 @@ mod tests {
         expected: &str,
     ) -> Result<(), Fail> {
         let mut packed = Packed::new(heap, size)?;
-        expect(rt, heap, &mut packed, calls, expected).note("packed")?;
+        expect(rt, heap, "packed", &mut packed, calls, expected)?;
         let mut chained = Chained::new(heap, size)?;
-        expect(rt, heap, &mut chained, calls, expected).note("chained")?;
+        expect(rt, heap, "chained", &mut chained, calls, expected)?;
         let mut ledger = Ledger::new(heap, size)?;
-        expect(rt, heap, &mut ledger, calls, expected).note("ledger")
+        expect(rt, heap, "ledger", &mut ledger, calls, expected)
     }
 
     #[test]
@@ -258,6 +259,7 @@ mod tests {
         expect(
             &rt,
             heap,
+            "packed",
             &mut packed,
             "open 1\nopen 0\ndrop\nopen 0\n",
             "fault 71 store line 0 byte 0\nfault 71 store line 0 byte 0\naccepted\nfault 72 store line 0 byte 0\n",
@@ -271,6 +273,7 @@ mod tests {
         expect(
             &rt,
             heap,
+            "chained",
             &mut chained,
             "open 1\nopen 0\ndrop\nopen 0\n",
             "fault 71 store line 0 byte 0\nfault 71 store line 0 byte 0\naccepted\nfault 72 store line 0 byte 0\n",
@@ -284,6 +287,7 @@ mod tests {
         expect(
             &rt,
             heap,
+            "ledger",
             &mut ledger,
             "open 1\nopen 0\ndrop\nopen 0\n",
             "fault 71 store line 0 byte 0\nfault 71 store line 0 byte 0\naccepted\nfault 72 store line 0 byte 0\n",

@@ -1,4 +1,4 @@
-use Rattle.std.proofs.Common.{sym, ◌∙◌, arith}
+use Rattle.std.proofs.Common.{sym, ◌∙◌}
 use Rattle.chained.proofs.Walks.{step_next, under_next}
 use Rattle.chained.proofs.links.after.Goals as goal
 

@@ -1,4 +1,4 @@
-use Rattle.std.proofs.Common.{◌≡◌, ◌||◌, length, sym, ap, ◌∙◌, arith}
+use Rattle.std.proofs.Common.{length, sym, ap, ◌∙◌, arith}
 use Rattle.chained.specs.Chains.{walk, under}
 use Rattle.chained.proofs.RowLoops.{holds_step, holds_under, by_or, holds_again}
 use Rattle.chained.proofs.rows.has_row.Goals as goal

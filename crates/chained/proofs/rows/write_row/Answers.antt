@@ -1,4 +1,4 @@
-use Rattle.std.proofs.Common.{◌≡◌, ◌<◌, length, get_or, pos, sym, ap, ◌∙◌, subst, ap₂, arith, w64, SFits, rules}
+use Rattle.std.proofs.Common.{◌≡◌, length, get_or, pos, ap, ◌∙◌, ap₂, arith, w64, SFits, rules}
 use Rattle.std.proofs.lemmas.List.{take_all}
 use Rattle.std.proofs.lemmas.Int.{to_z-of_z}
 use Rattle.chained.specs.Chains.{walk, step, put}

@@ -1,5 +1,4 @@
-use Rattle.std.proofs.Common.{◌≡◌, ◌+◌, ◌-◌, length, get_or, drop, sym, ap, ◌∙◌, arith}
-use Rattle.ledger.specs.Lines.{lines_of}
+use Rattle.std.proofs.Common.{length, get_or, sym, ap, ◌∙◌, arith}
 use Rattle.ledger.proofs.Passes.{lines_hit, lines_miss, lines_end, find_here, find_on}
 use Rattle.ledger.proofs.book.find_row.Goals as goal
 

@@ -1,4 +1,4 @@
-use Rattle.std.proofs.Common.{length, ap, ◌∙◌, arith}
+use Rattle.std.proofs.Common.{ap, ◌∙◌, arith}
 use Rattle.std.proofs.lemmas.List.{take_all, length-set}
 use Rattle.ledger.specs.Lines.{without}
 use Rattle.ledger.proofs.Passes.{remove_gone, remove_kept}

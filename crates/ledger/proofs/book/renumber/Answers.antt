@@ -1,4 +1,4 @@
-use Rattle.std.proofs.Common.{length, sym, ap, ◌∙◌, arith}
+use Rattle.std.proofs.Common.{arith}
 use Rattle.ledger.proofs.Passes.{renumber_hit, renumber_miss, renumber_all, renumber_long}
 use Rattle.ledger.proofs.book.renumber.Goals as goal
 

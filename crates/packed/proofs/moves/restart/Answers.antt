@@ -1,6 +1,4 @@
-use Rattle.std.proofs.Common.{[], ◌++◌, length, take, drop, ap, ◌∙◌, ap₂, arith}
-use Rattle.std.proofs.lemmas.List.{take_all, drop_all, append-nil}
-use Rattle.packed.specs.Starts.{restarted}
+use Rattle.std.proofs.Common.{arith}
 use Rattle.packed.proofs.Beginnings.{restart_fits, restart_set, restart_at, restart_all}
 use Rattle.packed.proofs.moves.restart.Goals as goal
 

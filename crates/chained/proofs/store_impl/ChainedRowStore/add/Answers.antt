@@ -1,4 +1,4 @@
-use Rattle.std.proofs.Common.{◌≡◌, length, Err, refl, ap, ◌∙◌, arith}
+use Rattle.std.proofs.Common.{length, Err, refl, ap, ◌∙◌, arith}
 use Rattle.store.proofs.Cases.{add_absent}
 use Rattle.directory.specs.Run.{laid}
 use Rattle.directory.proofs.Decoding.{length_decode}
@@ -52,8 +52,8 @@ write_row-self-requires c =
       inside = write_inside (kept s) c.index-last.result.now c.args.row.now c.len-count.result (omega arith) (omega arith) c.index-last.ensures c.told-row c.join-first.new.links c.as_mut_slice.result.now s.links.len c.cells.result c.join-first.result c.join-first.auto.links c.as_mut_slice.ensures.value (omega arith) c.join-first.ensures.after c.cells.ensures c.join-first.ensures.head (omega arith) c.as_slice.result.now c.as_mut_slice-2.result.now c.as_mut_slice-2.result.now c.as_slice.ensures.value c.as_mut_slice-2.ensures.value;
     }
 
-pub overflow_add-self-2 : goal.overflow_add-self-2
-overflow_add-self-2 c =
+pub overflow_add-last : goal.overflow_add-last
+overflow_add-last c =
     let s = c.args.self.now in
     omega (arith, add_count (held_kept (kept s)) c.index-last.result.now c.args.row.now c.len-count.result (omega arith) (omega arith) c.index-last.ensures c.told-row)
 

@@ -1,4 +1,4 @@
-use Rattle.std.proofs.Common.{◌≡◌, ℕ, ◌+◌, ◌*◌, pos, Ok, Err, ap, ◌∙◌, inl, inr, ⊎_elim, arith, w64, SFits, rules}
+use Rattle.std.proofs.Common.{pos, Ok, Err, ap, ◌∙◌, inl, inr, ⊎_elim, arith, w64, SFits, rules}
 use Rattle.std.proofs.lemmas.List.{get_or_read}
 use Rattle.std.proofs.lemmas.Int.{to_z-of_z}
 use Rattle.directory.proofs.Questions.{cell_refused, cell_outside, cell_answered}

@@ -1,4 +1,3 @@
-use Rattle.std.proofs.Common.{arith}
 use Rattle.directory.proofs.Questions.{left_told}
 use Rattle.chained.proofs.Fields.{entries, run}
 use Rattle.chained.proofs.store_impl.ChainedRowStore.cells_left.Goals as goal

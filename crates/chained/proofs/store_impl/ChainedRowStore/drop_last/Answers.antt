@@ -1,11 +1,11 @@
-use Rattle.std.proofs.Common.{◌≡◌, ◌-◌, [], ◌∷◌, length, vec_items, refl, ap, ◌∙◌, arith}
+use Rattle.std.proofs.Common.{◌-◌, [], ◌∷◌, length, vec_items, ap, ◌∙◌, arith}
 use Rattle.std.proofs.lemmas.List.{length-append}
 use Rattle.store.proofs.Cases.{drop_accepted}
 use Rattle.directory.proofs.Decoding.{length_decode}
 use Rattle.directory.proofs.Keeping.{decode_drop}
-use Rattle.chained.specs.Chains.{walk, under, head_of}
+use Rattle.chained.specs.Chains.{head_of}
 use Rattle.chained.proofs.Keeping.{held_kept, last_inside, last_size, kept_drop, run_drop}
-use Rattle.chained.proofs.Fields.{entries, cells, links, run, meaning, kept, parts, linked_as, chain_low}
+use Rattle.chained.proofs.Fields.{entries, links, run, meaning, kept, parts, linked_as, chain_low}
 use Rattle.chained.proofs.store_impl.ChainedRowStore.drop_last.Goals as goal
 
 pub join-self-requires : goal.join-self-requires

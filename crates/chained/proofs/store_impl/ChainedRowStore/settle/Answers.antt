@@ -1,4 +1,4 @@
-use Rattle.std.proofs.Common.{◌≡◌, ◌-◌, set, Err, ap, ◌∙◌, arith}
+use Rattle.std.proofs.Common.{◌-◌, set, Err, ap, ◌∙◌, arith}
 use Rattle.store.proofs.Cases.{settle_absent, settle_accepted}
 use Rattle.directory.proofs.Decoding.{length_decode}
 use Rattle.chained.specs.Chains.{head_of}

@@ -1,9 +1,9 @@
-use Rattle.std.proofs.Common.{◌≡◌, ℕ, ◌*◌, length, vec_items, refl, ap, ◌∙◌, ap₂, arith}
+use Rattle.std.proofs.Common.{◌≡◌, ◌*◌, length, vec_items, refl, ap, ◌∙◌, ap₂, arith}
 use Rattle.store.proofs.Cases.{drop_accepted}
 use Rattle.store.proofs.Kept.{sound_drop}
 use Rattle.ledger.specs.Lines.{lines_of, without}
 use Rattle.ledger.proofs.Fields.{widths, lines, meaning, sound, parts}
-use Rattle.ledger.proofs.Numbering.{length_numbered, below_drop}
+use Rattle.ledger.proofs.Numbering.{below_drop}
 use Rattle.ledger.proofs.Counting.{few_lines}
 use Rattle.ledger.proofs.Changes.{sound_as, removed, drop_done, used_drop, drop_some}
 use Rattle.ledger.proofs.store_impl.LedgerRowStore.drop_last.Goals as goal

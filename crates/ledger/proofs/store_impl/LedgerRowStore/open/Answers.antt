@@ -1,5 +1,4 @@
-use Rattle.std.proofs.Common.{length, Err, sym, ap, ◌∙◌, inl, inr, ⊎_elim, arith}
-use Rattle.std.proofs.lemmas.List.{length-append}
+use Rattle.std.proofs.Common.{Err, sym, ap, ◌∙◌, inl, inr, ⊎_elim, arith}
 use Rattle.store.proofs.Cases.{open_many, open_outside, open_accepted}
 use Rattle.store.proofs.Kept.{sound_open}
 use Rattle.ledger.proofs.Fields.{widths, lines, meaning, sound, parts}

@@ -1,4 +1,4 @@
-use Rattle.std.proofs.Common.{length, get_or, take, Ok, Err, sym, ap, ◌∙◌, arith}
+use Rattle.std.proofs.Common.{length, Ok, Err, ap, ◌∙◌, arith}
 use Rattle.store.proofs.Cases.{rows_absent, rows_told}
 use Rattle.ledger.specs.Lines.{lines_of}
 use Rattle.ledger.proofs.Fields.{widths, lines, meaning}

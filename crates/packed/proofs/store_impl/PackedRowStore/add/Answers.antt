@@ -1,8 +1,7 @@
-use Rattle.std.proofs.Common.{◌≡◌, ℕ, ◌+◌, ◌-◌, ◌*◌, cond, ◌++◌, length, take, set, Err, vec_items, sym, refl, ap, ◌∙◌, arith}
+use Rattle.std.proofs.Common.{◌≡◌, ◌-◌, ◌*◌, cond, ◌++◌, length, take, Err, vec_items, refl, ap, ◌∙◌, arith}
 use Rattle.store.proofs.Cases.{add_absent}
 use Rattle.directory.proofs.Decoding.{length_decode}
 use Rattle.directory.proofs.Adding.{add_good, add_size, add_count, part_long, part_is, add_again, add_over, add_held, add_done}
-use Rattle.packed.specs.Starts.{starts}
 use Rattle.packed.proofs.Beginnings.{last_begins, add_begun}
 use Rattle.packed.proofs.Fields.{entries, run, meaning, held, parts}
 use Rattle.packed.proofs.store_impl.PackedRowStore.add.Goals as goal
@@ -38,8 +37,8 @@ returns-then-width-self c =
     let r = add_over (held s) c.index-last.result.now c.args.row.now c.len-count.result (omega arith) (omega arith) c.index-last.ensures c.told-row c.deref.result.now c.index-last.result.now.first c.has_row.result c.deref.ensures.value (last_begins (entries s) c.index-last.result.now c.len-count.result (omega arith) (omega arith) c.index-last.ensures s.begun) c.has_row.ensures c.if-has_row.false (length (run s)) refl (omega arith) in
     record { reply = ap Err c.refuse-then-width-self.ensures ∙ r.0; after = r.1 }
 
-pub overflow_add-self : goal.overflow_add-self
-overflow_add-self c =
+pub overflow_add-last : goal.overflow_add-last
+overflow_add-last c =
     let s = c.args.self.now in
     omega (arith, add_count (held s) c.index-last.result.now c.args.row.now c.len-count.result (omega arith) (omega arith) c.index-last.ensures c.told-row)
 

@@ -1,4 +1,4 @@
-use Rattle.std.proofs.Common.{◌≡◌, ℕ, ◌+◌, ◌*◌, get_or, pos, Ok, Err, ap, ◌∙◌, inl, inr, ⊎_elim, arith, w64, SFits, rules}
+use Rattle.std.proofs.Common.{◌≡◌, ◌+◌, ◌*◌, get_or, pos, Ok, Err, ap, ◌∙◌, inl, inr, ⊎_elim, arith, w64, SFits, rules}
 use Rattle.std.proofs.lemmas.List.{get_or_read}
 use Rattle.std.proofs.lemmas.Int.{to_z-of_z}
 use Rattle.directory.proofs.Decoding.{cell_inside}

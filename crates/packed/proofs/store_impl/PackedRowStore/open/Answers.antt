@@ -1,4 +1,4 @@
-use Rattle.std.proofs.Common.{true, length, Err, ap, ◌∙◌, inl, inr, ⊎_elim, arith}
+use Rattle.std.proofs.Common.{Err, ap, ◌∙◌, inl, inr, ⊎_elim, arith}
 use Rattle.store.proofs.Cases.{open_many, open_outside, open_accepted}
 use Rattle.directory.specs.Run.{laid}
 use Rattle.directory.proofs.Decoding.{length_decode}
