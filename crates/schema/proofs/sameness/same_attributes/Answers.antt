@@ -12,7 +12,9 @@ loop-ours-preserved c = (
 )
 
 pub returns-then-is_empty : goal.returns-then-is_empty
-returns-then-is_empty c = c.is_empty-then-is_empty.ensures ∙ same_ended _ _ c.loop-ours.ours.now c.loop-ours.theirs.now c.if-is_empty.ensures ∙ c.loop-ours.invariant.2
+returns-then-is_empty c =
+    let ended = same_ended _ _ c.loop-ours.ours.now c.loop-ours.theirs.now c.if-is_empty.ensures ∙ c.loop-ours.invariant.2 in
+    grind (arith, ended)
 
 pub returns-else-is_empty : goal.returns-else-is_empty
 returns-else-is_empty c = c.if-is_empty.false ∙ same_short _ _ c.loop-ours.ours.now c.loop-ours.theirs.now c.if-is_empty.ensures (elim c.if-ours-lt1.branch [ in_default w ↦ grind (arith, nat_tests) | in_default-2 w ↦ grind (arith, nat_tests) ]) ∙ c.loop-ours.invariant.2
