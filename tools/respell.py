@@ -23,8 +23,13 @@ DECLARED = re.compile(r"(?m)^( *)((?:(?:pub|abbrev|unfoldable|record|data) +)*)(
 CLAUSE = re.compile(r"(?:requires|ensures)\*?\s*(?:\w+\s*)?\{|ghost\s+\w+\s*(?::|=)\s*(?:\w+\s+)?\{|ghost\s*\{")
 GENERATED = re.compile(r"^Rattle\.\w+\.(specs\.declared|proofs\.(?:.*\.)?(?:Goals|Given))(\.|$)")
 
-# Names that a list of constructors or an `as` declares, where the search for declarations does not see them.
-FURTHER = {"cell-limit", "table-limit", "used-by", "followedBy", "◌followedBy◌", "lines-in-use", "listLevel", "ntFactor", "ntStat", "nodes-limit"}
+# Names that a list of constructors, an `as` or a lemma's parameters declare, where the search for declarations does not see them.
+FURTHER = set(
+    """followedBy ◌followedBy◌ lines-in-use listLevel ntFactor ntStat
+    nodes-limit cell-limit table-limit used-by hasName hasOrder canCompare inClass nextToken
+    Gives-none New-is Wide-Row new-long old-is now-is links-is slice₂-is wrote-is wrote-long ws₂-is
+    at-is cs'-is e-is es'-is f'-is fs-is g-is h-is k-is l-is m-is ms'-is n-is r-is u'-is v-is vs-is w-is ws-is""".split()
+)
 
 # A cycle of functions was named after all of them; now after what they read.
 CYCLES = {
@@ -34,6 +39,9 @@ CYCLES = {
 
 # Names that would fall together with another of their file, and what they are called in its place.
 APART = {
+    "Gives-none": "gives_none",
+    "New-is": "new_is",
+    "Wide-Row": "wide_row",
     "argument-of": "argument_of_lem",
     "is-atom": "is_atom_lem",
     "keyword-terminal": "keyword_terminal_lem",

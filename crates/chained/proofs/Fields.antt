@@ -73,12 +73,12 @@ parts k p =
 
 -- what a slice leaves of the list that it was lent from
 pub refilled : {X : Type 0} (v : ℕ) (new slice old : List X) → length new ≡ length slice → slice ≡ old → v ≡ length old → take v (new ++ drop (length new) old) ≡ new
-refilled v new slice old long is v-is = take_at new (drop (length new) old) v (long ∙ ap length is ∙ sym v-is)
+refilled v new slice old long is v_is = take_at new (drop (length new) old) v (long ∙ ap length is ∙ sym v_is)
 
 -- the links after a table's chain was joined to the free one
 pub linked_as : (v : ℕ) (new slice ns : List ℕ) (size : ℕ) (e : Entry) (next : ℕ) → length new ≡ length slice → slice ≡ ns → v ≡ length ns → new ≡ joined slice size e.first next → size ≡ extent_of e → take v (new ++ drop (length new) ns) ≡ joined ns (extent_of e) e.first next
-linked_as v new slice ns size e next long is v-is New-is size_is =
-    refilled v new slice ns long is v-is ∙ New-is ∙ ap (λ x. joined x size e.first next) is ∙ ap (λ n. joined ns n e.first next) size_is
+linked_as v new slice ns size e next long is v_is new_is size_is =
+    refilled v new slice ns long is v_is ∙ new_is ∙ ap (λ x. joined x size e.first next) is ∙ ap (λ n. joined ns n e.first next) size_is
 
 -- a chain within the store's cells is within the links
 pub chain_low : (c size : ℕ) (e : Entry) (slice ns : List ℕ) → slice ≡ ns → length ns ≡ c → size ≡ extent_of e → under c (chain.walk ns (extent_of e) e.first) ≡ true → under (length slice) (chain.walk slice size e.first) ≡ true

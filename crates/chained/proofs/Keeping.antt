@@ -133,14 +133,14 @@ module _ {c u f : ℕ} {es : List Entry} {cs : List ℤ} {ns : List ℕ} (k : Ke
   run_rest from at = sym (ap (drop from) run_last ∙ drop_at (run fs cs ns) (gather cs E) from (length_run fs cs ns ∙ sym at))
 
   -- Drop: the joined chain is the free chain.
-  module _ (ms : List ℕ) (u' f' : ℕ) (ms_is : ms ≡ joined ns (extent_of e) e.first f) (f'-is : f' ≡ head_of (extent_of e) e.first f) (u'-is : u' ≡ u - extent_of e) where
+  module _ (ms : List ℕ) (u' f' : ℕ) (ms_is : ms ≡ joined ns (extent_of e) e.first f) (f'_is : f' ≡ head_of (extent_of e) e.first f) (u'_is : u' ≡ u - extent_of e) where
     before : places ms fs ≡ places ns fs
     before = ap (λ x. places x fs) ms_is ∙ join_places ns (extent_of e) e.first f fs parts.XP
 
     freed : walk ms (c - u') f' ≡ E ++ F
     freed =
-        let n : c - u' ≡ extent_of e + (c - u) = omega (arith, u'-is, last_size, k.within) in
-        ap₂ (λ x y. walk x (c - u') y) ms_is f'-is ∙ ap (λ n. walk (joined ns (extent_of e) e.first f) n (head_of (extent_of e) e.first f)) n ∙ join_chain ns (extent_of e) e.first (c - u) f parts.d_x parts.XR last_low
+        let n : c - u' ≡ extent_of e + (c - u) = omega (arith, u'_is, last_size, k.within) in
+        ap₂ (λ x y. walk x (c - u') y) ms_is f'_is ∙ ap (λ n. walk (joined ns (extent_of e) e.first f) n (head_of (extent_of e) e.first f)) n ∙ join_chain ns (extent_of e) e.first (c - u) f parts.d_x parts.XR last_low
 
     -- the run without its last cells
     pub run_drop : run fs cs ms ≡ take (length (run es cs ns) - extent_of e) (run es cs ns)
@@ -151,13 +151,13 @@ module _ {c u f : ℕ} {es : List Entry} {cs : List ℤ} {ns : List ℕ} (k : Ke
     -- dropping the last table
     pub kept_drop : Kept c u' f' fs cs ms
     kept_drop =
-        kept_from c u' f' fs cs (run fs cs ms) ms (chains ns es (c - u) f) (held_drop fs e (run fs cs ms) (held_kept k) is run_drop) refl (omega (arith, u'-is, last_size)) k.room (ap length ms_is ∙ length_joined ns (extent_of e) e.first f ∙ k.linked) (ap₂ ◌++◌ before freed ∙ sym whole) k.apart k.inside
+        kept_from c u' f' fs cs (run fs cs ms) ms (chains ns es (c - u) f) (held_drop fs e (run fs cs ms) (held_kept k) is run_drop) refl (omega (arith, u'_is, last_size)) k.room (ap length ms_is ∙ length_joined ns (extent_of e) e.first f ∙ k.linked) (ap₂ ◌++◌ before freed ∙ sym whole) k.apart k.inside
 
   -- Add: the table goes on with the first free cells.
   module _ (w : ℕ) (row : Row) (ms : List ℕ) (ds : List ℤ) (u' f' h : ℕ) (es' : List Entry) (fit : w ≤ c - u) (wide : length row ≡ w)
-      (ms_is : ms ≡ joined ns (extent_of e) e.first f) (h-is : h ≡ head_of (extent_of e) e.first f)
-      (ds_is : ds ≡ put cs (walk ms w f) row) (f'-is : f' ≡ step ms w f) (u'-is : u' ≡ u + w)
-      (w-is : e.width ≡ w) (es'-is : es' ≡ fs ++ record { first = h; width = e.width; count = e.count + 1 } ∷ []) where
+      (ms_is : ms ≡ joined ns (extent_of e) e.first f) (h_is : h ≡ head_of (extent_of e) e.first f)
+      (ds_is : ds ≡ put cs (walk ms w f) row) (f'_is : f' ≡ step ms w f) (u'_is : u' ≡ u + w)
+      (w_is : e.width ≡ w) (es'_is : es' ≡ fs ++ record { first = h; width = e.width; count = e.count + 1 } ∷ []) where
     abbrev W : List ℕ
     W = walk ns w f
 
@@ -166,7 +166,7 @@ module _ {c u f : ℕ} {es : List Entry} {cs : List ℤ} {ns : List ℕ} (k : Ke
 
     two : F ≡ W ++ R
     two =
-        let n : c - u ≡ w + (c - u') = omega (arith, u'-is) in
+        let n : c - u ≡ w + (c - u') = omega (arith, u'_is) in
         ap (λ n. walk ns n f) n ∙ walk_add ns w (c - u') f
 
     apart_two : (cross E W ≡ true) × (cross E R ≡ true)
@@ -181,17 +181,17 @@ module _ {c u f : ℕ} {es : List Entry} {cs : List ℤ} {ns : List ℕ} (k : Ke
 
     left_free : walk ms (c - u') f' ≡ R
     left_free =
-        let at : f' ≡ step ns w f = f'-is ∙ ap (λ x. step x w f) ms_is ∙ (join_walk ns (extent_of e) e.first f w f apart_two.0).1 in
+        let at : f' ≡ step ns w f = f'_is ∙ ap (λ x. step x w f) ms_is ∙ (join_walk ns (extent_of e) e.first f w f apart_two.0).1 in
         ap₂ (λ x y. walk x (c - u') y) ms_is at ∙ (join_walk ns (extent_of e) e.first f (c - u') (step ns w f) apart_two.1).0
 
     longer : walk ms ((e.count + 1) * e.width) h ≡ E ++ W
     longer =
-        let n : (e.count + 1) * e.width ≡ extent_of e + w = add-mul e.count 1 e.width ∙ ap (λ n. extent_of e + n) (one-mul e.width ∙ w-is) in
-        ap₂ (λ x y. walk x ((e.count + 1) * e.width) y) ms_is h-is ∙ ap (λ n. walk (joined ns (extent_of e) e.first f) n (head_of (extent_of e) e.first f)) n ∙ join_chain ns (extent_of e) e.first w f parts.d_x apart_two.0 last_low
+        let n : (e.count + 1) * e.width ≡ extent_of e + w = add-mul e.count 1 e.width ∙ ap (λ n. extent_of e + n) (one-mul e.width ∙ w_is) in
+        ap₂ (λ x y. walk x ((e.count + 1) * e.width) y) ms_is h_is ∙ ap (λ n. walk (joined ns (extent_of e) e.first f) n (head_of (extent_of e) e.first f)) n ∙ join_chain ns (extent_of e) e.first w f parts.d_x apart_two.0 last_low
 
     places_add : places ms es' ≡ places ns es ++ W
     places_add =
-        ap (places ms) es'-is ∙ places_append ms fs (record { first = h; width = e.width; count = e.count + 1 } ∷ []) ∙ ap₂ (λ x y. x ++ (y ++ [])) before_add longer ∙ ap (λ x. places ns fs ++ x) (append-nil (E ++ W)) ∙ sym (append_assoc (places ns fs) E W) ∙ ap (λ x. x ++ W) (sym places_last)
+        ap (places ms) es'_is ∙ places_append ms fs (record { first = h; width = e.width; count = e.count + 1 } ∷ []) ∙ ap₂ (λ x y. x ++ (y ++ [])) before_add longer ∙ ap (λ x. places ns fs ++ x) (append-nil (E ++ W)) ∙ sym (append_assoc (places ns fs) E W) ∙ ap (λ x. x ++ W) (sym places_last)
 
     same_chains : chains ms es' (c - u') f' ≡ chains ns es (c - u) f
     same_chains = ap₂ ◌++◌ places_add left_free ∙ append_assoc (places ns es) W R ∙ ap (λ x. places ns es ++ x) (sym two)
@@ -207,4 +207,4 @@ module _ {c u f : ℕ} {es : List Entry} {cs : List ℤ} {ns : List ℕ} (k : Ke
     -- adding a row
     pub kept_add : Held c es' (run es cs ns ++ row) → Kept c u' f' es' ds ms
     kept_add held =
-        kept_from c u' f' es' ds (run es cs ns ++ row) ms (chains ns es (c - u) f) held run_add (omega (arith, held.full, length-append (run es cs ns) row, length_run es cs ns, k.full, u'-is, wide)) (ap length ds_is ∙ length_put cs (walk ms w f) row ∙ k.room) (ap length ms_is ∙ length_joined ns (extent_of e) e.first f ∙ k.linked) same_chains k.apart k.inside
+        kept_from c u' f' es' ds (run es cs ns ++ row) ms (chains ns es (c - u) f) held run_add (omega (arith, held.full, length-append (run es cs ns) row, length_run es cs ns, k.full, u'_is, wide)) (ap length ds_is ∙ length_put cs (walk ms w f) row ∙ k.room) (ap length ms_is ∙ length_joined ns (extent_of e) e.first f ∙ k.linked) same_chains k.apart k.inside

@@ -39,16 +39,16 @@ module _ {c u f : ℕ} {es : List Entry} {cs : List ℤ} {ns : List ℕ} (k : Ke
 
     -- and ends at one
     pub cell_low : (ms : List ℕ) (at : ℕ) → ms ≡ ns → at ≡ step ms (r * e.width + j) e.first → at < length cs
-    cell_low ms at ms_is at-is =
-        subst (λ x. x < length cs) (sym (at-is ∙ ap (λ x. step x (r * e.width + j) e.first) ms_is)) (subst (λ n. step ns (r * e.width + j) e.first < n) (sym k.room) (step_under c ns (extent_of e) (r * e.width + j) e.first cell_place chain_inside))
+    cell_low ms at ms_is at_is =
+        subst (λ x. x < length cs) (sym (at_is ∙ ap (λ x. step x (r * e.width + j) e.first) ms_is)) (subst (λ n. step ns (r * e.width + j) e.first < n) (sym k.room) (step_under c ns (extent_of e) (r * e.width + j) e.first cell_place chain_inside))
 
     -- which holds what the run has there
     pub cell_read : (ms : List ℕ) (at : ℕ) → ms ≡ ns → at ≡ step ms (r * e.width + j) e.first → get_or cs at (pos 0) ≡ get_or (run es cs ns) (extent (take t es) + r * e.width + j) (pos 0)
-    cell_read ms at ms_is at-is =
+    cell_read ms at ms_is at_is =
         let p : ℕ = r * e.width + j in
         let front : length (gather cs X) ≡ extent (take t es) = length_gather cs X ∙ length_places ns (take t es) in
         let long : length (gather cs E) ≡ extent_of e = length_gather cs E ∙ length_walk ns (extent_of e) e.first in
         let all : run es cs ns ≡ gather cs X ++ (gather cs E ++ gather cs Y) = ap (gather cs) cells_are ∙ gather_append cs X (E ++ Y) ∙ ap (λ x. gather cs X ++ x) (gather_append cs E Y) in
         let place : extent (take t es) + r * e.width + j ≡ length (gather cs X) + p = omega (arith, front) in
         let one : get_or (gather cs E) p (pos 0) ≡ get_or cs (step ns p e.first) (pos 0) = get_or-map (λ i. get_or cs i (pos 0)) E p 0 (pos 0) (omega (arith, length_walk ns (extent_of e) e.first, cell_place)) ∙ ap (λ i. get_or cs i (pos 0)) (get_d_walk ns (extent_of e) p e.first 0 cell_place) in
-        ap (λ i. get_or cs i (pos 0)) (at-is ∙ ap (λ x. step x p e.first) ms_is) ∙ sym (ap₂ (λ x n. get_or x n (pos 0)) all place ∙ get_or-append-add (gather cs X) (gather cs E ++ gather cs Y) p (pos 0) ∙ get_or_append_left (gather cs E) (gather cs Y) (pos 0) p (omega (arith, long, cell_place)) ∙ one)
+        ap (λ i. get_or cs i (pos 0)) (at_is ∙ ap (λ x. step x p e.first) ms_is) ∙ sym (ap₂ (λ x n. get_or x n (pos 0)) all place ∙ get_or-append-add (gather cs X) (gather cs E ++ gather cs Y) p (pos 0) ∙ get_or_append_left (gather cs E) (gather cs Y) (pos 0) p (omega (arith, long, cell_place)) ∙ one)

@@ -62,7 +62,7 @@ module _ (es : List Entry) (e : Entry) (some : 0 < length es) (is : e ≡ get_or
         sym (h ∙ ap (λ m. has (chunk e.count (length (take m row)) (drop from ds)) (take m row)) w0 ∙ ap (λ m. has (chunk e.count m (drop from ds)) (take e.width row)) (length-take-le e.width row w) ∙ ap₂ (λ m x. has (chunk e.count e.width (drop m x)) (take e.width row)) (is-from ∙ sym last_from) is-ds) in
         (here, sym (ap (λ t. has t.rows (take t.width row)) (last_is c)) ∙ here)
 
-    module _ (row : Row) (Wide-Row : length row ≡ e.width) where
+    module _ (row : Row) (wide_row : length row ≡ e.width) where
       -- the entry with a row more; it may have moved
       abbrev pub after : ℕ → Entry
       after f = record { first = f; width = e.width; count = e.count + 1 }
@@ -77,7 +77,7 @@ module _ (es : List Entry) (e : Entry) (some : 0 < length es) (is : e ≡ get_or
           let here : set es (length es - 1) (after f) ≡ front ++ after f ∷ [] = ap (λ x. set x (length es - 1) (after f)) last_split ∙ set_at front e [] (after f) (length es - 1) n in
           let low : extent front ≤ length cs = omega (arith, last_extent) in
           let rest : drop (extent front) (cs ++ row) ≡ drop from cs ++ row = drop-append-le (extent front) cs row low ∙ ap (λ k. drop k cs ++ row) (sym last_from) in
-          let rows : chunk (e.count + 1) e.width (drop from cs ++ row) ≡ chunk e.count e.width (drop from cs) ++ row ∷ [] = ap (λ k. chunk k e.width (drop from cs ++ row)) (add-one e.count) ∙ chunk_more e.count e.width (drop from cs) row last_length Wide-Row in
+          let rows : chunk (e.count + 1) e.width (drop from cs ++ row) ≡ chunk e.count e.width (drop from cs) ++ row ∷ [] = ap (λ k. chunk k e.width (drop from cs ++ row)) (add-one e.count) ∙ chunk_more e.count e.width (drop from cs) row last_length wide_row in
           let new : decode (front ++ after f ∷ []) (cs ++ row) ≡ decode front cs ++ grown (table_of e (drop from cs)) row ∷ [] =
           decode_append front (after f ∷ []) (cs ++ row) ∙ ap₂ ◌++◌ (decode_front front cs row low) (ap (λ x. table_of (after f) x ∷ []) rest ∙ ap (λ x. record { width = e.width; rows = x } ∷ []) rows) in
           let old : decode es cs ≡ decode front cs ++ table_of e (drop from cs) ∷ [] =

@@ -5,7 +5,7 @@ ghost use Rattle.words.specs.Tokens.{Bytes};
 ghost use Rattle.schema.specs.Columns.{name_of, column_of, schema_of};
 ghost use Rattle.scope.specs.Chains.{find};
 ghost use Rattle.typing.specs.Environments.{is_column};
-ghost use Rattle.typing.specs.Tables.{has as hasName, meets_in, meet};
+ghost use Rattle.typing.specs.Tables.{has as has_name, meets_in, meet};
 ghost use Rattle.typing.specs.Checker.{bind, or_absent, together, with_column};
 ghost use Rattle.inference.specs.Views.{place_of, schema_answer};
 
@@ -18,7 +18,7 @@ use words::Span;
 
 // Whether an attribute has the name.
 pub fn has(attributes: &[Attribute], text: &[u8], name: &[u8]) -> bool
-    ensures { result ≡ hasName (map (column_of text.now) attributes.now) name.now }
+    ensures { result ≡ has_name (map (column_of text.now) attributes.now) name.now }
 {
     match newest(attributes, text, name) {
         Some(_) => true,

@@ -4,7 +4,7 @@ ghost use Rattle.domain.specs.declared.Domain.TheVariants.{Boolean};
 ghost use Rattle.fault.specs.declared.rules.Rule.TheVariants.{OperandMismatch};
 ghost use Rattle.schema.specs.Kinds.{type_of, ValueType.atom};
 ghost use Rattle.typing.specs.Environments.{fault as failing};
-ghost use Rattle.typing.specs.Tables.{is_atom, both_atoms, ordered as hasOrder, both_ordered, comparable as canCompare};
+ghost use Rattle.typing.specs.Tables.{is_atom, both_atoms, ordered as has_order, both_ordered, comparable as can_compare};
 ghost use Rattle.typing.specs.Checker.{ask, columns_of};
 ghost use Rattle.inference.specs.Views.{place_of, type_answer, schema_answer};
 
@@ -54,7 +54,7 @@ pub fn as_atoms(left: &Kind, right: &Kind, domain: Domain, at: Spot) -> Result<K
 
 // Integers and strings have an order.
 fn ordered(domain: Domain) -> bool
-    ensures { result ≡ hasOrder domain }
+    ensures { result ≡ has_order domain }
 {
     match domain {
         Domain::Integer | Domain::String => true,
@@ -72,7 +72,7 @@ fn both_ordered(left: &Kind, right: &Kind) -> bool
 }
 
 fn comparable(comparison: Comparison, left: &Kind, right: &Kind, text: &[u8]) -> bool
-    ensures { result ≡ canCompare comparison (type_of text.now left.now) (type_of text.now right.now) }
+    ensures { result ≡ can_compare comparison (type_of text.now left.now) (type_of text.now right.now) }
 {
     match comparison {
         Comparison::Equal | Comparison::NotEqual => same_type(left, text, right, text),
@@ -89,7 +89,7 @@ pub fn compare(
     text: &[u8],
     at: Spot,
 ) -> Result<Kind, Fault>
-    ensures { type_answer text.now result ≡ ask (canCompare comparison (type_of text.now left.now) (type_of text.now right.now)) (failing OperandMismatch (place_of at)) (Ok (atom Boolean)) }
+    ensures { type_answer text.now result ≡ ask (can_compare comparison (type_of text.now left.now) (type_of text.now right.now)) (failing OperandMismatch (place_of at)) (Ok (atom Boolean)) }
 {
     if comparable(comparison, left, right, text) {
         Ok(Kind::Atom(Domain::Boolean))

@@ -25,12 +25,12 @@ cut_slice v r new old now l e = e ∙ ap (take r) (whole_slice v new old l)
 
 -- the lines that are left when one table's are removed, as the code has them
 pub removed : (ls slice new ms : List Line) (t r v : ℕ) → slice ≡ ls → take r new ≡ without t slice → length new ≡ length slice → v ≡ length ls → ms ≡ take r (take v (new ++ drop (length new) ls)) → ms ≡ without t ls
-removed ls slice new ms t r v slice_is kept long v-is ms_is =
-    cut_slice v r new ls ms (long ∙ ap length slice_is ∙ sym v-is) ms_is ∙ kept ∙ ap (without t) slice_is
+removed ls slice new ms t r v slice_is kept long v_is ms_is =
+    cut_slice v r new ls ms (long ∙ ap length slice_is ∙ sym v_is) ms_is ∙ kept ∙ ap (without t) slice_is
 
 -- and when another table's are then renumbered
 pub handed_on : (ls slice new : List Line) (from to v : ℕ) → slice ≡ ls → new ≡ renumbered from to slice → length new ≡ length slice → v ≡ length ls → take v (new ++ drop (length new) ls) ≡ renumbered from to ls
-handed_on ls slice new from to v slice_is New-is long v-is = whole_slice v new ls (long ∙ ap length slice_is ∙ sym v-is) ∙ New-is ∙ ap (renumbered from to) slice_is
+handed_on ls slice new from to v slice_is new_is long v_is = whole_slice v new ls (long ∙ ap length slice_is ∙ sym v_is) ∙ new_is ∙ ap (renumbered from to) slice_is
 
 -- The cell of a row, by the line that holds it.
 pub cell_is : (c : ℕ) (ws : List ℕ) (ls : List Line) (t r k : ℕ) (l : Line) (x : ℤ) → t < length ws → r < length (lines_of t ls) → k < get_or ws t 0 → l ≡ get_or (lines_of t ls) r l → x ≡ get_or l.cells k (pos 0) → Ok x ≡ cell_reply (written c ws ls) t r k
@@ -40,11 +40,11 @@ cell_is c ws ls t r k l x here low col is read =
     ap Ok (read ∙ sym (ap (λ y. get_or (get_or y.rows r []) k (pos 0)) table ∙ ap (λ y. get_or y k (pos 0)) rows ∙ get_or-take (get_or ws t 0) l.cells k (pos 0) col)) ∙ cell_told (written c ws ls) t r k (omega (arith, length_numbered 0 ws ls)) (omega (arith, ap (λ y. length y.rows) table, length-map (lines_of t ls) (λ y. take (get_or ws t 0) y.cells))) (omega (arith, ap (λ y. y.width) table))
 
 -- Open.
-module _ (c : ℕ) (ws : List ℕ) (ls : List Line) (w : ℕ) (vs : List ℕ) (owned : below (length ws) ls ≡ true) (vs-is : vs ≡ ws ++ w ∷ []) where
+module _ (c : ℕ) (ws : List ℕ) (ls : List Line) (w : ℕ) (vs : List ℕ) (owned : below (length ws) ls ≡ true) (vs_is : vs ≡ ws ++ w ∷ []) where
   tables_open : tables_of vs ls ≡ tables_of ws ls ++ record { width = w; rows = [] } ∷ []
   tables_open =
       let none : lines_of (0 + length ws) ls ≡ [] = lines_none (length ws) (0 + length ws) ls owned (omega arith) in
-      ap (λ x. tables_of x ls) vs-is ∙ numbered_append 0 ws (w ∷ []) ls ∙ ap (λ x. tables_of ws ls ++ record { width = w; rows = rows_of w x } ∷ []) none
+      ap (λ x. tables_of x ls) vs_is ∙ numbered_append 0 ws (w ∷ []) ls ∙ ap (λ x. tables_of ws ls ++ record { width = w; rows = rows_of w x } ∷ []) none
 
   pub open_done : written c vs ls ≡ opened (written c ws ls) w
   open_done = ap (λ x. record { capacity = c; tables = x }) tables_open
@@ -53,7 +53,7 @@ module _ (c : ℕ) (ws : List ℕ) (ls : List Line) (w : ℕ) (vs : List ℕ) (o
   used_open = ap used tables_open ∙ used_append (tables_of ws ls) (record { width = w; rows = [] } ∷ []) ∙ omega (arith, zero-mul w)
 
 -- Add: m is the last table, w its width.
-module _ (c : ℕ) (ws : List ℕ) (ls : List Line) (m w : ℕ) (row : Row) (some : 0 < length ws) (m-is : m ≡ length ws - 1) (w-is : w ≡ get_or ws m 0) where
+module _ (c : ℕ) (ws : List ℕ) (ls : List Line) (m w : ℕ) (row : Row) (some : 0 < length ws) (m_is : m ≡ length ws - 1) (w_is : w ≡ get_or ws m 0) where
   last_place_lem : last_place (written c ws ls) ≡ m
   last_place_lem = omega (arith, length_numbered 0 ws ls)
 
@@ -61,13 +61,13 @@ module _ (c : ℕ) (ws : List ℕ) (ls : List Line) (m w : ℕ) (row : Row) (som
   last_is = ap (λ k. get_or (tables_of ws ls) k no_table) last_place_lem ∙ table_is ws ls m no_table (omega arith)
 
   pub last_wide : (last_table (written c ws ls)).width ≡ w
-  last_wide = ap (λ t. t.width) last_is ∙ sym w-is
+  last_wide = ap (λ t. t.width) last_is ∙ sym w_is
 
   -- r is what the search found
   pub add_found : (slice : List Line) (r : Bool) → w ≤ length row → slice ≡ ls → r ≡ has (rows_of (length (take (w - 0) row)) (lines_of m slice)) (take (w - 0) row) → repeats (written c ws ls) row ≡ r
-  add_found slice r long slice_is r-is =
+  add_found slice r long slice_is r_is =
       let whole : w - 0 ≡ w = omega arith in
-      ap (λ t. has t.rows (take t.width row)) last_is ∙ ap (λ n. has (rows_of n (lines_of m ls)) (take n row)) (sym w-is) ∙ sym (r-is ∙ ap (λ n. has (rows_of (length (take n row)) (lines_of m slice)) (take n row)) whole ∙ ap₂ (λ n x. has (rows_of n (lines_of m x)) (take w row)) (length-take-le w row long) slice_is)
+      ap (λ t. has t.rows (take t.width row)) last_is ∙ ap (λ n. has (rows_of n (lines_of m ls)) (take n row)) (sym w_is) ∙ sym (r_is ∙ ap (λ n. has (rows_of (length (take n row)) (lines_of m slice)) (take n row)) whole ∙ ap₂ (λ n x. has (rows_of n (lines_of m x)) (take w row)) (length-take-le w row long) slice_is)
 
   module _ (ms : List Line) (ms_is : ms ≡ ls ++ record { table = m; cells = row } ∷ []) where
     abbrev new : Line
@@ -109,19 +109,19 @@ module _ (c : ℕ) (ws : List ℕ) (ls : List Line) (m w : ℕ) (row : Row) (som
         omega (arith, ap used tables_add, used_set (tables_of ws ls) (last_place (written c ws ls)) after (omega (arith, length_numbered 0 ws ls)), size_grown (last_table (written c ws ls)) (row_for (written c ws ls) row), last_wide)
 
 -- Drop.
-module _ (c : ℕ) (ws vs : List ℕ) (w : ℕ) (ls ms : List Line) (ws-is : ws ≡ vs ++ w ∷ []) (ms_is : ms ≡ without (length vs) ls) where
+module _ (c : ℕ) (ws vs : List ℕ) (w : ℕ) (ls ms : List Line) (ws_is : ws ≡ vs ++ w ∷ []) (ms_is : ms ≡ without (length vs) ls) where
   long : length ws ≡ suc (length vs)
-  long = ap length ws-is ∙ length-append vs (w ∷ []) ∙ omega arith
+  long = ap length ws_is ∙ length-append vs (w ∷ []) ∙ omega arith
 
   -- the width of the last table
   pub drop_width : get_or ws (length vs) 0 ≡ w
-  drop_width = ap (λ x. get_or x (length vs) 0) ws-is ∙ get_or_at vs w [] 0 (length vs) refl
+  drop_width = ap (λ x. get_or x (length vs) 0) ws_is ∙ get_or_at vs w [] 0 (length vs) refl
 
   tables_drop : tables_of vs ms ≡ take (length (tables_of ws ls) - 1) (tables_of ws ls)
   tables_drop =
       let m : ℕ = length (tables_of ws ls) - 1 in
       let same : tables_of vs ms ≡ tables_of vs ls = ap (tables_of vs) ms_is ∙ numbered_same 0 vs (without (length vs) ls) ls (λ k l. lines_without k (length vs) ls (λ e. omega arith)) in
-      same ∙ sym (ap (take m) (ap (λ x. tables_of x ls) ws-is ∙ numbered_append 0 vs (w ∷ []) ls) ∙ take_at (tables_of vs ls) (numbered (0 + length vs) (w ∷ []) ls) m (omega (arith, length_numbered 0 ws ls, length_numbered 0 vs ls, long)))
+      same ∙ sym (ap (take m) (ap (λ x. tables_of x ls) ws_is ∙ numbered_append 0 vs (w ∷ []) ls) ∙ take_at (tables_of vs ls) (numbered (0 + length vs) (w ∷ []) ls) m (omega (arith, length_numbered 0 ws ls, length_numbered 0 vs ls, long)))
 
   pub drop_done : written c vs ms ≡ dropped (written c ws ls)
   drop_done = ap (λ x. record { capacity = c; tables = x }) tables_drop
@@ -138,10 +138,10 @@ pub drop_some : (c : ℕ) (ws vs : List ℕ) (w : ℕ) (ls : List Line) → ws �
 drop_some c ws vs w ls is = omega (arith, length_numbered 0 ws ls, ap length is, length-append vs (w ∷ []))
 
 -- Settle: m is the last table, n the one that goes.
-module _ (c : ℕ) (ws vs : List ℕ) (ls ms : List Line) (m n w : ℕ) (lt : n < m) (m-is : suc m ≡ length ws) (w-is : w ≡ get_or ws m 0)
-    (vs-is : vs ≡ set (take m ws) n w) (ms_is : ms ≡ renumbered m n (without n ls)) where
+module _ (c : ℕ) (ws vs : List ℕ) (ls ms : List Line) (m n w : ℕ) (lt : n < m) (m_is : suc m ≡ length ws) (w_is : w ≡ get_or ws m 0)
+    (vs_is : vs ≡ set (take m ws) n w) (ms_is : ms ≡ renumbered m n (without n ls)) where
   pub vs_long : length vs ≡ m
-  vs_long = ap length vs-is ∙ length-set (take m ws) n w ∙ length-take-le m ws (omega arith)
+  vs_long = ap length vs_is ∙ length-set (take m ws) n w ∙ length-take-le m ws (omega arith)
 
   place : last_place (written c ws ls) ≡ m
   place = omega (arith, length_numbered 0 ws ls)
@@ -153,14 +153,14 @@ module _ (c : ℕ) (ws vs : List ℕ) (ls ms : List Line) (m n w : ℕ) (lt : n 
   front_long = length-take-le (last_place (written c ws ls)) (tables_of ws ls) (omega (arith, length_numbered 0 ws ls)) ∙ place
 
   width_new : get_or vs n 0 ≡ w
-  width_new = ap (λ x. get_or x n 0) vs-is ∙ get_or-set_same (take m ws) n w 0 (omega (arith, length-take-le m ws (omega arith)))
+  width_new = ap (λ x. get_or x n 0) vs_is ∙ get_or-set_same (take m ws) n w 0 (omega (arith, length-take-le m ws (omega arith)))
 
   width_old : (k : ℕ) → k < m → (k ≡ n → ⊥) → get_or vs k 0 ≡ get_or ws k 0
-  width_old k l ne = ap (λ x. get_or x k 0) vs-is ∙ get_or-set_other (take m ws) n k w 0 ne ∙ get_or-take m ws k 0 l
+  width_old k l ne = ap (λ x. get_or x k 0) vs_is ∙ get_or-set_other (take m ws) n k w 0 ne ∙ get_or-take m ws k 0 l
 
   here : (d : Table) → get_or (tables_of vs ms) n d ≡ get_or (set (take (last_place (written c ws ls)) (tables_of ws ls)) n (last_table (written c ws ls))) n d
   here d =
-      table_is vs ms n d (omega (arith, vs_long)) ∙ ap₂ (λ x y. record { width = x; rows = rows_of x (lines_of n y) }) width_new ms_is ∙ ap (λ x. record { width = w; rows = x }) (rows_moved m n w ls (λ e. omega arith)) ∙ ap (λ x. record { width = x; rows = rows_of x (lines_of m ls) }) w-is ∙ sym (get_or-set_same (take (last_place (written c ws ls)) (tables_of ws ls)) n (last_table (written c ws ls)) d (omega (arith, front_long)) ∙ last)
+      table_is vs ms n d (omega (arith, vs_long)) ∙ ap₂ (λ x y. record { width = x; rows = rows_of x (lines_of n y) }) width_new ms_is ∙ ap (λ x. record { width = w; rows = x }) (rows_moved m n w ls (λ e. omega arith)) ∙ ap (λ x. record { width = x; rows = rows_of x (lines_of m ls) }) w_is ∙ sym (get_or-set_same (take (last_place (written c ws ls)) (tables_of ws ls)) n (last_table (written c ws ls)) d (omega (arith, front_long)) ∙ last)
 
   there : (k : ℕ) (d : Table) → k < m → (k ≡ n → ⊥) → get_or (tables_of vs ms) k d ≡ get_or (set (take (last_place (written c ws ls)) (tables_of ws ls)) n (last_table (written c ws ls))) k d
   there k d l ne =

@@ -191,5 +191,5 @@ below_drop ws vs w ls ms is ms_is h =
     ap (below (length vs)) ms_is ∙ below_without (length vs) ls (ap (λ n. below n ls) (sym up) ∙ h)
 
 pub below_settle : (ws vs : List ℕ) (m n : ℕ) (ls ms : List Line) → n < m → suc m ≡ length ws → length vs ≡ m → ms ≡ renumbered m n (without n ls) → below (length ws) ls ≡ true → below (length vs) ms ≡ true
-below_settle ws vs m n ls ms lt m-is long is h =
-    ap₂ below long is ∙ below_renumbered m n (without n ls) lt (below_part (suc m) n ls (ap (λ k. below k ls) m-is ∙ h))
+below_settle ws vs m n ls ms lt m_is long is h =
+    ap₂ below long is ∙ below_renumbered m n (without n ls) lt (below_part (suc m) n ls (ap (λ k. below k ls) m_is ∙ h))

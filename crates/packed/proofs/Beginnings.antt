@@ -80,7 +80,7 @@ restarted_append n (e ∷ es) fs =
     ap (λ x. record { first = n; width = e.width; count = e.count } ∷ x) (restarted_append (n + extent_of e) es fs ∙ ap (λ m. restarted (n + extent_of e) es ++ restarted m fs) (add_assoc n (extent_of e) (extent es)))
 
 -- one turn of the loop that sets them: `now` are the entries with the first i of them set
-module _ (es now : List Entry) (i at : ℕ) (d : Entry) (l : i < length es) (inv : now ≡ restarted 0 (take i es) ++ drop i es) (at-is : at ≡ extent (take i es)) where
+module _ (es now : List Entry) (i at : ℕ) (d : Entry) (l : i < length es) (inv : now ≡ restarted 0 (take i es) ++ drop i es) (at_is : at ≡ extent (take i es)) where
   front_long : length (restarted 0 (take i es)) ≡ i
   front_long = length_restarted 0 (take i es) ∙ length-take-le i es (omega arith)
 
@@ -94,18 +94,18 @@ module _ (es now : List Entry) (i at : ℕ) (d : Entry) (l : i < length es) (inv
   restart_length = ap length inv ∙ omega (arith, length-append (restarted 0 (take i es)) (drop i es), front_long, length-drop i es)
 
   pub restart_fits : at + extent_of (get_or now i d) ≤ extent es
-  restart_fits = omega (arith, at-is, ap extent_of restart_same, extent_take es i d l)
+  restart_fits = omega (arith, at_is, ap extent_of restart_same, extent_take es i d l)
 
   pub restart_set : set now i (record { first = at; width = (get_or now i d).width; count = (get_or now i d).count }) ≡ restarted 0 (take (i + 1) es) ++ drop (i + 1) es
   restart_set =
       let new : Entry = record { first = at; width = (get_or now i d).width; count = (get_or now i d).count } in
       let old : Entry = get_or es i d in
       let more : restarted 0 (take (i + 1) es) ≡ restarted 0 (take i es) ++ new ∷ [] =
-      ap (restarted 0) (take_more es i d l) ∙ restarted_append 0 (take i es) (old ∷ []) ∙ ap₂ (λ m (x : Entry). restarted 0 (take i es) ++ record { first = m; width = x.width; count = x.count } ∷ []) (omega (arith, at-is)) (sym restart_same) in
+      ap (restarted 0) (take_more es i d l) ∙ restarted_append 0 (take i es) (old ∷ []) ∙ ap₂ (λ m (x : Entry). restarted 0 (take i es) ++ record { first = m; width = x.width; count = x.count } ∷ []) (omega (arith, at_is)) (sym restart_same) in
       ap (λ x. set x i new) split_here ∙ set_at (restarted 0 (take i es)) old (drop (i + 1) es) new i front_long ∙ sym (ap (λ x. x ++ drop (i + 1) es) more ∙ append_assoc (restarted 0 (take i es)) (new ∷ []) (drop (i + 1) es))
 
   pub restart_at : at + extent_of (get_or now i d) ≡ extent (take (i + 1) es)
-  restart_at = omega (arith, at-is, ap extent_of restart_same, extent_more es i d l)
+  restart_at = omega (arith, at_is, ap extent_of restart_same, extent_more es i d l)
 
 -- Dropping the last table.
 
@@ -125,9 +125,9 @@ restart_all es now i l inv = inv ∙ ap₂ (λ x y. restarted 0 x ++ y) (take_al
 -- Adding to the last table, which e is of n.
 
 pub last_begins : (es : List Entry) (e : Entry) (n : ℕ) → n ≡ length es → 0 < length es → e ≡ get_or es (n - 1) e → starts 0 es ≡ true → e.first ≡ extent (take (length es - 1) es)
-last_begins es e n n-is some is h = begins_at es (length es - 1) e h (omega arith) (is ∙ ap (λ m. get_or es (m - 1) e) n-is)
+last_begins es e n n_is some is h = begins_at es (length es - 1) e h (omega arith) (is ∙ ap (λ m. get_or es (m - 1) e) n_is)
 
 pub add_begun : (es : List Entry) (e : Entry) (n : ℕ) → n ≡ length es → 0 < length es → e ≡ get_or es (n - 1) e → starts 0 es ≡ true → starts 0 (set es (n - 1) (record { first = e.first; width = e.width; count = e.count + 1 })) ≡ true
-add_begun es e n n-is some is h =
+add_begun es e n n_is some is h =
     let d : Entry = record { first = e.first; width = e.width; count = e.count + 1 } in
-    ap (λ m. starts 0 (set es (m - 1) d)) n-is ∙ starts_grown es e d some (is ∙ ap (λ m. get_or es (m - 1) e) n-is) h refl
+    ap (λ m. starts 0 (set es (m - 1) d)) n_is ∙ starts_grown es e d some (is ∙ ap (λ m. get_or es (m - 1) e) n_is) h refl

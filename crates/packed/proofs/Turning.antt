@@ -25,12 +25,12 @@ swapped cs ys front a b from k is f l h =
 
 -- What the code of `settle` has in hand, as plain facts: the cells as a slice, `ws` what the two rotations left there.
 module _ (es : List Entry) (cs : List ℤ) (n m k g l : ℕ) (old last : Entry) (slice ws : List ℤ)
-    (lt : n + 1 < m) (m-is : m ≡ length es) (old-is : old ≡ get_or es n old) (last_is : last ≡ get_or es (m - 1) last)
-    (full : extent es ≡ length cs) (begun : starts 0 es ≡ true) (slice_is : slice ≡ cs) (k-is : k ≡ length cs)
-    (g-is : g ≡ extent_of old) (l-is : l ≡ extent_of last) where
+    (lt : n + 1 < m) (m_is : m ≡ length es) (old_is : old ≡ get_or es n old) (last_is : last ≡ get_or es (m - 1) last)
+    (full : extent es ≡ length cs) (begun : starts 0 es ≡ true) (slice_is : slice ≡ cs) (k_is : k ≡ length cs)
+    (g_is : g ≡ extent_of old) (l_is : l ≡ extent_of last) where
   the_split : Split es cs n old last
   the_split =
-      split es cs n old last (omega arith) old-is (last_is ∙ ap (λ i. get_or es i last) at) full
+      split es cs n old last (omega arith) old_is (last_is ∙ ap (λ i. get_or es i last) at) full
     where
       at : m - 1 ≡ length es - 1
       at = omega arith
@@ -40,7 +40,7 @@ module _ (es : List Entry) (cs : List ℤ) (n m k g l : ℕ) (old last : Entry) 
       ap length p.cells ∙ length-append p.front (p.gone ++ (p.middle ++ p.moved)) ∙ ap (λ i. length p.front + i) (length-append p.gone (p.middle ++ p.moved) ∙ ap (λ i. length p.gone + i) (length-append p.middle p.moved))
 
   the_from : (p : Split es cs n old last) → old.first ≡ length p.front
-  the_from p = begins_at es n old begun (omega arith) old-is ∙ ap extent (sym p.begins) ∙ p.fits_front
+  the_from p = begins_at es n old begun (omega arith) old_is ∙ ap extent (sym p.begins) ∙ p.fits_front
 
   -- the cells that go are among those there
   pub settle_kept : g ≤ k
@@ -57,18 +57,18 @@ module _ (es : List Entry) (cs : List ℤ) (n m k g l : ℕ) (old last : Entry) 
       go p = omega (arith, the_lengths p, the_from p, p.fits_gone, p.fits_moved, ap length slice_is)
 
   module _ (turn : (front gone middle moved : List ℤ) → slice ≡ front ++ (gone ++ (middle ++ moved)) → length front ≡ old.first → length gone ≡ g → length moved ≡ l → ws ≡ front ++ (moved ++ (middle ++ gone)))
-      (fs : List Entry) (ds : List ℤ) (v : ℕ) (v-is : v ≡ length cs)
-      (fs-is : fs ≡ take (m - 1) es) (ds_is : ds ≡ take (k - g) (take v (ws ++ drop (length ws) cs))) where
+      (fs : List Entry) (ds : List ℤ) (v : ℕ) (v_is : v ≡ length cs)
+      (fs_is : fs ≡ take (m - 1) es) (ds_is : ds ≡ take (k - g) (take v (ws ++ drop (length ws) cs))) where
     the_turn : (p : Split es cs n old last) → ws ≡ p.front ++ (p.moved ++ (p.middle ++ p.gone))
-    the_turn p = turn p.front p.gone p.middle p.moved (slice_is ∙ p.cells) (sym (the_from p)) (sym (g-is ∙ p.fits_gone)) (sym (l-is ∙ p.fits_moved))
+    the_turn p = turn p.front p.gone p.middle p.moved (slice_is ∙ p.cells) (sym (the_from p)) (sym (g_is ∙ p.fits_gone)) (sym (l_is ∙ p.fits_moved))
 
     the_cells : (p : Split es cs n old last) → ds ≡ cells_after p
     the_cells p =
         let long : length ws ≡ v = ap length (the_turn p) ∙ omega (arith, the_lengths p, length-append p.front (p.moved ++ (p.middle ++ p.gone)), length-append p.moved (p.middle ++ p.gone), length-append p.middle p.gone) in
-        ds_is ∙ ap (take (k - g)) (take_at ws (drop (length ws) cs) v long) ∙ cut_after p ws (k - g) (the_turn p) (ap₂ ◌-◌ k-is g-is)
+        ds_is ∙ ap (take (k - g)) (take_at ws (drop (length ws) cs) v long) ∙ cut_after p ws (k - g) (the_turn p) (ap₂ ◌-◌ k_is g_is)
 
     the_entries : set fs n last ≡ set (take (length es - 1) es) n last
-    the_entries = ap (λ x. set x n last) (fs-is ∙ ap (λ i. take (i - 1) es) m-is)
+    the_entries = ap (λ x. set x n last) (fs_is ∙ ap (λ i. take (i - 1) es) m_is)
 
     the_held : {c : ℕ} → Held c es cs → Held c (set fs n last) ds
     the_held {c} h = go the_split
@@ -77,16 +77,16 @@ module _ (es : List Entry) (cs : List ℤ) (n m k g l : ℕ) (old last : Entry) 
         go p = held_settle p (set fs n last) ds h (omega arith) the_entries (the_cells p)
 
     -- then the directory learns where its tables begin: `now` is what that left of it
-    module _ (slice₂ ws₂ now : List Entry) (v₂ : ℕ) (slice₂-is : slice₂ ≡ set fs n last) (v₂_is : v₂ ≡ m - 1)
-        (ws₂-is : ws₂ ≡ restarted 0 slice₂) (now-is : now ≡ take v₂ (ws₂ ++ drop (length ws₂) (set fs n last))) where
+    module _ (slice₂ ws₂ now : List Entry) (v₂ : ℕ) (slice₂_is : slice₂ ≡ set fs n last) (v₂_is : v₂ ≡ m - 1)
+        (ws₂_is : ws₂ ≡ restarted 0 slice₂) (now_is : now ≡ take v₂ (ws₂ ++ drop (length ws₂) (set fs n last))) where
       pub settle_small : {c : ℕ} → Held c es cs → extent slice₂ ≤ cells
-      settle_small h = let h₂ = the_held h in omega (arith, ap extent slice₂-is, h₂.full, h₂.within, h₂.small)
+      settle_small h = let h₂ = the_held h in omega (arith, ap extent slice₂_is, h₂.full, h₂.within, h₂.small)
 
       the_directory : now ≡ restarted 0 (set fs n last)
       the_directory =
-          let long : length (set fs n last) ≡ v₂ = length-set fs n last ∙ omega (arith, ap length fs-is, length-take-le (m - 1) es (omega arith)) in
-          let wrote : ws₂ ≡ restarted 0 (set fs n last) = ws₂-is ∙ ap (restarted 0) slice₂-is in
-          now-is ∙ take_at ws₂ (drop (length ws₂) (set fs n last)) v₂ (ap length wrote ∙ length_restarted 0 (set fs n last) ∙ long) ∙ wrote
+          let long : length (set fs n last) ≡ v₂ = length-set fs n last ∙ omega (arith, ap length fs_is, length-take-le (m - 1) es (omega arith)) in
+          let wrote : ws₂ ≡ restarted 0 (set fs n last) = ws₂_is ∙ ap (restarted 0) slice₂_is in
+          now_is ∙ take_at ws₂ (drop (length ws₂) (set fs n last)) v₂ (ap length wrote ∙ length_restarted 0 (set fs n last) ∙ long) ∙ wrote
 
       pub settle_decodes : (c : ℕ) → decode now ds ≡ set (take (last_place (laid c es cs)) (decode es cs)) n (last_table (laid c es cs))
       settle_decodes c = go the_split

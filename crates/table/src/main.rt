@@ -3,9 +3,9 @@
 
 mod example;
 
-use anyhow::anyhow;
 use excerpt::{line_end, line_start, shown};
 use fault::Fault;
+use std::process::ExitCode;
 use std::{env, fs};
 use words::{Tally, Text, scan};
 
@@ -54,36 +54,42 @@ fn show_place(rt: &HostRuntime, text: &[u8], byte: usize) -> anyhow::Result<()> 
 // A fault in one line, with the script's line and a caret under the place below it.
 fn refuse(rt: &HostRuntime, text: &Text, fault: Fault) -> anyhow::Result<()> {
     println!(rt; "{fault}")?;
-    show_place(rt, text.bytes(), fault.byte as usize)?;
-    Err(anyhow!("the script was refused"))
+    show_place(rt, text.bytes(), fault.byte as usize)
 }
 
-fn check(rt: &HostRuntime, name: &str, bytes: Vec<u8>) -> anyhow::Result<()> {
+// A refusal has been told in full, so it is a status and no error.
+fn check(rt: &HostRuntime, name: &str, bytes: Vec<u8>) -> anyhow::Result<ExitCode> {
     let text = match Text::new(bytes) {
         Ok(text) => text,
         Err(oversized) => {
             let fault = oversized.fault;
             println!(rt; "{fault}")?;
-            return Err(anyhow!("the script is too long"));
+            return Ok(ExitCode::FAILURE);
         }
     };
     match scan(&text) {
-        Ok(tally) => tell(rt, name, tally),
-        Err(fault) => refuse(rt, &text, fault),
+        Ok(tally) => {
+            tell(rt, name, tally)?;
+            Ok(ExitCode::SUCCESS)
+        },
+        Err(fault) => {
+            refuse(rt, &text, fault)?;
+            Ok(ExitCode::FAILURE)
+        },
     }
 }
 
-fn check_file(rt: &HostRuntime, name: &str) -> anyhow::Result<()> {
+fn check_file(rt: &HostRuntime, name: &str) -> anyhow::Result<ExitCode> {
     match fs::read(rt, name) {
         Ok(bytes) => check(rt, name, bytes),
         Err(error) => {
             eprintln!(rt; "table: cannot read {name}: {error}")?;
-            Err(anyhow!("no script"))
+            Ok(ExitCode::FAILURE)
         }
     }
 }
 
-fn main(rt: HostRuntime) -> anyhow::Result<()> {
+fn main(rt: HostRuntime) -> anyhow::Result<ExitCode> {
     let words: Vec<String> = env::args(&rt)?.skip(1).collect(rt.alloc())?;
     if words.is_empty() || (words.len() == 1 && words[0].as_str() == "check") {
         return check(&rt, "built-in example", example::SCRIPT.to_vec(rt.alloc())?);
@@ -92,5 +98,5 @@ fn main(rt: HostRuntime) -> anyhow::Result<()> {
         return check_file(&rt, words[1].as_str());
     }
     eprintln!(rt; "{USAGE}")?;
-    Err(anyhow!("no such command"))
+    Ok(ExitCode::FAILURE)
 }

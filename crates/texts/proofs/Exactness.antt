@@ -260,7 +260,7 @@ module _ {A : Type 0} (test : Option ℕ → Bool) (F : Format A) (G : Format (L
     (xf : Reads F anywhere f) (xg : Reads G S g)
     (begins : (a : A) (p r : List ℕ) → F a p → test (first (p ++ r)) ≡ true)
     (closes : (vs : List A) (p r : List ℕ) → G vs p → S (first r) → test (first (p ++ r)) ≡ false)
-    (Gives-none : (vs : List A) (p : List ℕ) → G vs p → vs ≡ [])
+    (gives_none : (vs : List A) (p : List ℕ) → G vs p → vs ≡ [])
     (ends : test none ≡ false) where
   -- a text is not empty, since its first byte passes the test
   takes_some : (a : A) (p : List ℕ) → F a p → 0 < length p
@@ -316,7 +316,7 @@ module _ {A : Type 0} (test : Option ℕ → Bool) (F : Format A) (G : Format (L
 
   closed : (vs : List A) (p : List ℕ) → G vs p → Many F G vs p
   closed [] p t = t
-  closed (a ∷ vs) p t = let e = Gives-none (a ∷ vs) p t in absurd (cons≢nil e)
+  closed (a ∷ vs) p t = let e = gives_none (a ∷ vs) p t in absurd (cons≢nil e)
 
   upto_many : (n : ℕ) (vs : List A) (p : List ℕ) → Upto n vs p → Many F G vs p
   unfolding Upto

@@ -1,7 +1,7 @@
 // The classes of bytes, and how far a run of one class goes.
 ghost use Rattle.std.specs.Prelude.{◌≡◌, ◌≤◌, length};
 ghost use Rattle.words.specs.Letters.{letter, digit, name_byte, run};
-ghost use Rattle.words.specs.Letters.{belongs as inClass};
+ghost use Rattle.words.specs.Letters.{belongs as in_class};
 
 // What a run of bytes is made of: the bytes of names, of integers, of strings.
 #[derive(Clone, Copy)]
@@ -31,7 +31,7 @@ fn is_name_byte(b: u8) -> bool
 
 impl Class {
     fn holds(self, b: u8) -> bool
-        ensures { result ≡ inClass self b }
+        ensures { result ≡ in_class self b }
     {
         match self {
             Class::Naming => is_name_byte(b),
@@ -44,7 +44,7 @@ impl Class {
 // How many bytes at the front are of the class.
 pub fn run_length(class: Class, text: &[u8]) -> usize
     ensures within { result ≤ length text.now }
-    ensures value { result ≡ run (inClass class) text.now }
+    ensures value { result ≡ run (in_class class) text.now }
 {
     let mut count = 0;
     let mut rest = text;

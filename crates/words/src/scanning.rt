@@ -1,7 +1,7 @@
 // Reads one token after the other. Each function is the definition of its name in specs/Lexing.antt.
 ghost use Rattle.std.specs.Prelude.{◌≡◌, ◌+◌, ◌<◌, ◌≤◌, length, drop, if◌then◌else◌, Some, None};
 ghost use Rattle.words.specs.Letters.{run, name_byte, digit, feed, blank};
-ghost use Rattle.words.specs.Lexing.{start, further, skipped, word_or_name, symbol_terminal, name_at, integer_at, string_at, sign_at, token_at, next as nextToken};
+ghost use Rattle.words.specs.Lexing.{start, further, skipped, word_or_name, symbol_terminal, name_at, integer_at, string_at, sign_at, token_at, next as next_token};
 ghost use Rattle.words.specs.Sizes.{text_bytes};
 ghost use Rattle.words.specs.Spelling.{keyword_of};
 ghost use Rattle.words.specs.Views.{spot_of, standing, Small, spoken, found_at, Onward, answer, Moved};
@@ -205,7 +205,7 @@ impl<'a> Scanner<'a> {
     // The next token with its place, at the text's end `End`; a fault leaves the scanner where it was.
     pub fn next(&mut self) -> Result<Lexeme<'a>, Fault>
         ensures moved { Moved (standing self.old) (standing self.new) result }
-        ensures value { answer (standing self.new) result ≡ nextToken (standing self.old) }
+        ensures value { answer (standing self.new) result ≡ next_token (standing self.old) }
     {
         let at = skip(Cursor {
             rest: self.rest,

@@ -53,9 +53,9 @@ invariant_of-self c =
     let up : suc m ≡ length (widths s) = omega arith in
     let cut = removed (lines s) c.as_mut_slice.result.now c.remove-kept.new.lines (vec_items c.truncate.new.self) t c.remove-kept.result s.lines.len c.as_mut_slice.ensures.value c.remove-kept.ensures.kept c.remove-kept.auto.lines (omega arith) c.truncate.ensures.items in
     let left = handed_on (vec_items c.truncate.new.self) c.as_mut_slice-2.result.now c.renumber.new.lines m t c.truncate.new.self.len c.as_mut_slice-2.ensures.value c.renumber.ensures c.renumber.auto.lines (grind (arith, c.truncate.ensures.len, c.truncate.ensures.items)) ∙ ap (renumbered m t) cut in
-    let vs-is = ap (λ x. set x t c.index-last.result.now) c.truncate-2.ensures.items in
+    let vs_is = ap (λ x. set x t c.index-last.result.now) c.truncate-2.ensures.items in
     let r = settle_accepted (meaning s) t (omega (arith, length_numbered 0 (widths s) (lines s))) in
-    parts _ _ (sound_as _ _ (settle_done s.capacity (widths s) _ (lines s) _ m t c.index-last.result.now (omega arith) up last vs-is left ∙ r.1) (sound_settle (meaning s) t (sound s))) (omega (arith, size, s.counted, used_settle s.capacity (widths s) _ (lines s) _ m t c.index-last.result.now (omega arith) up last vs-is left)) (below_settle (widths s) _ m t (lines s) _ (omega arith) up (vs_long s.capacity (widths s) _ (lines s) _ m t c.index-last.result.now (omega arith) up last vs-is left) left s.owned) (omega (arith, s.room, c.truncate.ensures.capacity)) (omega (arith, s.places, c.truncate-2.ensures.capacity))
+    parts _ _ (sound_as _ _ (settle_done s.capacity (widths s) _ (lines s) _ m t c.index-last.result.now (omega arith) up last vs_is left ∙ r.1) (sound_settle (meaning s) t (sound s))) (omega (arith, size, s.counted, used_settle s.capacity (widths s) _ (lines s) _ m t c.index-last.result.now (omega arith) up last vs_is left)) (below_settle (widths s) _ m t (lines s) _ (omega arith) up (vs_long s.capacity (widths s) _ (lines s) _ m t c.index-last.result.now (omega arith) up last vs_is left) left s.owned) (omega (arith, s.room, c.truncate.ensures.capacity)) (omega (arith, s.places, c.truncate-2.ensures.capacity))
 
 pub returns : goal.returns
 returns c =
@@ -68,6 +68,6 @@ returns c =
     let up : suc m ≡ length (widths s) = omega arith in
     let cut = removed (lines s) c.as_mut_slice.result.now c.remove-kept.new.lines (vec_items c.truncate.new.self) t c.remove-kept.result s.lines.len c.as_mut_slice.ensures.value c.remove-kept.ensures.kept c.remove-kept.auto.lines (omega arith) c.truncate.ensures.items in
     let left = handed_on (vec_items c.truncate.new.self) c.as_mut_slice-2.result.now c.renumber.new.lines m t c.truncate.new.self.len c.as_mut_slice-2.ensures.value c.renumber.ensures c.renumber.auto.lines (grind (arith, c.truncate.ensures.len, c.truncate.ensures.items)) ∙ ap (renumbered m t) cut in
-    let vs-is = ap (λ x. set x t c.index-last.result.now) c.truncate-2.ensures.items in
+    let vs_is = ap (λ x. set x t c.index-last.result.now) c.truncate-2.ensures.items in
     let r = settle_accepted (meaning s) t (omega (arith, length_numbered 0 (widths s) (lines s))) in
-    record { reply = r.0; after = settle_done s.capacity (widths s) _ (lines s) _ m t c.index-last.result.now (omega arith) up last vs-is left ∙ r.1 }
+    record { reply = r.0; after = settle_done s.capacity (widths s) _ (lines s) _ m t c.index-last.result.now (omega arith) up last vs_is left ∙ r.1 }
