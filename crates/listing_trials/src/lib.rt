@@ -2,6 +2,10 @@
 // The expected places come from a small reader of its own, written apart from this one.
 #![tactic(auto)]
 
+ghost use Rattle.std.specs.Prelude.{◌≡◌, codes};
+ghost use Rattle.schema.specs.Columns.{schema_of};
+ghost use Rattle.listing_trials.specs.Trials.{columns, answer_of, same_answer, holds, FirstWrong};
+
 use domain::Domain;
 use fault::Layer;
 use listing::read_table;
@@ -26,7 +30,9 @@ pub struct Trial<'a> {
 }
 
 // The schema `(a:i,b:s)` over the script `ab`.
-fn two_columns() -> Schema {
+fn two_columns() -> Schema
+    ensures { schema_of (codes "ab") result ≡ columns }
+{
     let first = Attribute {
         name: Some(Span { start: 0, len: 1 }),
         domain: Domain::Integer,
@@ -45,7 +51,9 @@ fn two_columns() -> Schema {
     }
 }
 
-fn layer_answer(layer: Layer) -> Answer {
+fn layer_answer(layer: Layer) -> Answer
+    ensures { result ≡ answer_of layer }
+{
     match layer {
         Layer::Heading => Answer::Heading,
         Layer::Row => Answer::Row,
@@ -54,7 +62,9 @@ fn layer_answer(layer: Layer) -> Answer {
     }
 }
 
-fn same_answer(left: Answer, right: Answer) -> bool {
+fn same_answer(left: Answer, right: Answer) -> bool
+    ensures { result ≡ same_answer left right }
+{
     match (left, right) {
         (Answer::Rows, Answer::Rows) => true,
         (Answer::Heading, Answer::Heading) => true,
@@ -65,7 +75,9 @@ fn same_answer(left: Answer, right: Answer) -> bool {
 }
 
 // Whether the text is answered as expected.
-pub fn holds(trial: Trial<'_>) -> bool {
+pub fn holds(trial: Trial<'_>) -> bool
+    ensures { result ≡ holds trial.entry }
+{
     match read_table(trial.text, &two_columns(), b"ab") {
         Ok(rows) => same_answer(trial.answer, Answer::Rows) && rows == trial.number,
         Err(fault) => same_answer(trial.answer, layer_answer(fault.rule.layer()))
@@ -74,7 +86,9 @@ pub fn holds(trial: Trial<'_>) -> bool {
 }
 
 // The first trial that does not hold.
-pub fn first_wrong(trials: &[Trial<'_>]) -> Option<usize> {
+pub fn first_wrong(trials: &[Trial<'_>]) -> Option<usize>
+    ensures { FirstWrong trials.now result }
+{
     for i in 0..trials.len() {
         if !holds(trials[i]) {
             return Some(i);

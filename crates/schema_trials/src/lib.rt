@@ -1,6 +1,12 @@
 // Trials of schemas, scopes and inference: small columns over the text `aba`, each with what the rules give. Tests only.
 #![tactic(auto)]
 
+ghost use Rattle.std.specs.Prelude.{◌≡◌, codes, Some};
+ghost use Rattle.domain.specs.declared.Domain.TheVariants.{Integer};
+ghost use Rattle.schema.specs.Columns.{column_of, schema_of};
+ghost use Rattle.typing.specs.Checker.{together, with_column};
+ghost use Rattle.schema_trials.specs.Trials.{text as names, column_for, columns_for, outcome, at_byte};
+
 use domain::Domain;
 use fault::limits::COLUMNS;
 use inference::{Spot, extend, join};
@@ -11,7 +17,9 @@ use words::Span;
 pub const TEXT: &[u8] = b"aba";
 
 // The columns `integer a`, `integer b`, `string a`, and an integer and a string without a name.
-pub fn column(which: char) -> Attribute {
+pub fn column(which: char) -> Attribute
+    ensures { column_of names result ≡ column_for which }
+{
     match which {
         'a' => Attribute {
             name: Some(Span { start: 0, len: 1 }),
@@ -37,7 +45,9 @@ pub fn column(which: char) -> Attribute {
 }
 
 // The schema of so many nameless integers, then these columns.
-pub fn schema(integers: usize, columns: &[char]) -> Schema {
+pub fn schema(integers: usize, columns: &[char]) -> Schema
+    ensures { schema_of names result ≡ columns_for integers columns.now }
+{
     let mut schema = Schema::empty();
     for _ in 0..integers {
         if let Some(longer) = schema.with(column('i')) {
@@ -61,7 +71,9 @@ pub struct Outcome {
 }
 
 // A join at byte 7.
-pub fn joined(left: &Schema, right: &Schema) -> Outcome {
+pub fn joined(left: &Schema, right: &Schema) -> Outcome
+    ensures { result ≡ outcome (together (schema_of names left.now) (schema_of names right.now) (at_byte 7)) }
+{
     match join(*left, right, TEXT, Spot { line: 1, byte: 7 }) {
         Ok(all) => Outcome {
             width: all.width(),
@@ -77,7 +89,9 @@ pub fn joined(left: &Schema, right: &Schema) -> Outcome {
 }
 
 // An extension by an integer `a`, the operator at byte 7 and the name at byte 9.
-pub fn extended(operand: &Schema) -> Outcome {
+pub fn extended(operand: &Schema) -> Outcome
+    ensures { result ≡ outcome (with_column (schema_of names operand.now) (codes "a") Integer (at_byte 7) (at_byte 9)) }
+{
     let name = Span { start: 0, len: 1 };
     match extend(
         *operand,
@@ -101,7 +115,9 @@ pub fn extended(operand: &Schema) -> Outcome {
 }
 
 // Where `a` is found in the attributes a, b | b | i, s | i, from the outermost list to the innermost.
-pub fn sought() -> Option<Place> {
+pub fn sought() -> Option<Place>
+    ensures { result ≡ Some (record { distance = 1; position = 1; number = 4 }) }
+{
     let entries = [
         column('a'),
         column('b'),

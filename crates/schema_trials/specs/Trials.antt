@@ -1,0 +1,41 @@
+-- What the trials are made of: columns by a letter, over the text `aba`, and the answer of a step in three numbers.
+use Rattle.std.specs.Prelude.{ℕ, ◌==◌, cond, List, ◌++◌, map, take, replicate, length, codes, Ok, Err, Some, None}
+use Rattle.domain.specs.declared.Domain.{Domain}
+use Rattle.domain.specs.declared.Domain.TheVariants.{Integer, String}
+use Rattle.fault.specs.Limits.{columns}
+use Rattle.fault.specs.Rules.{number_of}
+use Rattle.words.specs.Tokens.{Place}
+use Rattle.schema.specs.Columns.{Column}
+use Rattle.typing.specs.Checker.{Answer}
+use Rattle.schema_trials.specs.declared.Outcome.{Outcome}
+
+-- the text that spells every name
+abbrev pub text : List ℕ
+text = codes "aba"
+
+abbrev pub named : List ℕ → Domain → Column
+named name d = record { name = Some name; domain = d }
+
+abbrev pub nameless : Domain → Column
+nameless d = record { name = None; domain = d }
+
+-- the column of a letter: a and b are integers of that name, s is a string of the name a, i an integer and any other a string without a name
+abbrev pub column_for : ℕ → Column
+column_for letter =
+    cond (letter == 97) (named (codes "a") Integer)
+    (cond (letter == 98) (named (codes "b") Integer)
+    (cond (letter == 115) (named (codes "a") String)
+    (cond (letter == 105) (nameless Integer) (nameless String))))
+
+-- so many nameless integers and then a column for each letter, as far as a schema has room
+abbrev pub columns_for : ℕ → List ℕ → List Column
+columns_for integers letters = take columns (replicate integers (nameless Integer) ++ map column_for letters)
+
+-- an answer in three numbers: the width of the result, or the number and the byte of the fault
+abbrev pub outcome : Answer (List Column) → Outcome
+outcome (Ok cs) = record { width = length cs; number = 0; byte = 0 }
+outcome (Err f) = record { width = 0; number = number_of f.rule; byte = f.byte }
+
+-- a place of the first line
+abbrev pub at_byte : ℕ → Place
+at_byte b = record { line = 1; byte = b }
