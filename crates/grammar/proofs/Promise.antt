@@ -11,6 +11,7 @@ use Rattle.grammar.specs.Tree.{Block, Block.closed_at}
 use Rattle.grammar.specs.Parts.{Part}
 use Rattle.grammar.specs.Readers.{Cause, Cause.cannot_follow, Cause.too_deep, Outcome, Outcome.found, Outcome.refused_at, program_at, wholly, told}
 use Rattle.grammar.specs.Promise.{any_token, only_last, Program, Begins, BeginsWithin, Breaks, Placed, Decided, OneTree, OneFault, NeverBoth}
+use Rattle.grammar.specs.Reading.{Tells, ReadersExact}
 use Rattle.grammar.proofs.TablePromise.{Begins as TableBegins, Within as TableWithin, Fault as TableFault, Placed as TablePlaced, check}
 use Rattle.grammar.proofs.Place.{accepts_right, one_tree}
 use Rattle.grammar.proofs.Exact.{faults_exact}
@@ -93,3 +94,11 @@ decided n s = go (program_at any_token n s) refl
     go (found t []) e = inl (_, program_by n s t (ap wholly e))
     go (found t (k ∷ r)) e = inr (_, k ∷ r, placed_by n s cannot_follow (k ∷ r) (ap wholly e))
     go (refused_at c r) e = inr (_, r, placed_by n s c r (ap wholly e))
+
+pub readers_exact : ReadersExact
+readers_exact n s = go (program_at any_token n s) refl
+  where
+    go : (x : Outcome) → program_at any_token n s ≡ x → Tells n s (wholly x)
+    go (found t []) e = (refl, program_by n s t (ap wholly e))
+    go (found t (k ∷ r)) e = placed_by n s cannot_follow (k ∷ r) (ap wholly e)
+    go (refused_at c r) e = placed_by n s c r (ap wholly e)

@@ -3,3 +3,4 @@ pub mod Grammar
 pub mod Promise
 pub mod Parts
 pub mod Readers
+pub mod Reading

@@ -3,11 +3,14 @@
 #![tactic(auto)]
 
 ghost use Rattle.grammar.specs.Promise.{Decided, OneTree, OneFault, NeverBoth};
+ghost use Rattle.grammar.specs.Reading.{ReadersExact};
 
 // The grammar's promise: every list of tokens is a program with one tree, or has one fault at one place, and never both.
+// The executable readers find that tree or that fault.
 pub fn grammar_stands()
     ensures decided { Decided }
     ensures one_tree { OneTree }
     ensures one_fault { OneFault }
     ensures never_both { NeverBoth }
+    ensures readers { ReadersExact }
 {}
