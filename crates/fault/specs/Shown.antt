@@ -1,5 +1,6 @@
 -- How a fault is told: `fault 11 scan line 3 byte 41`.
 use Rattle.std.specs.Prelude.{ℕ, List, ◌++◌, codes, decimal}
+use Rattle.fault.specs.declared.places.Place.{Place}
 use Rattle.fault.specs.declared.rules.Fault.{Fault}
 use Rattle.fault.specs.declared.rules.Layer.{Layer}
 use Rattle.fault.specs.declared.rules.Layer.TheVariants.{Host, Scan, Grammar, Schema, Size, Machine, Store, Heading, Row, Cell, Supply}
@@ -18,7 +19,10 @@ layer_name Row = codes "row"
 layer_name Cell = codes "cell"
 layer_name Supply = codes "supply"
 
+abbrev pub place_line : Place → List ℕ
+place_line p = codes "line " ++ (decimal p.line ++ (codes " byte " ++ decimal p.byte))
+
 abbrev pub fault_line : Fault → List ℕ
 fault_line f =
     codes "fault " ++ (decimal (number_of f.rule) ++ (codes " " ++ (layer_name (layer_of f.rule) ++
-    (codes " line " ++ (decimal f.line ++ (codes " byte " ++ decimal f.byte))))))
+    (codes " " ++ place_line f.place))))

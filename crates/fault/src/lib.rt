@@ -3,7 +3,9 @@
 #![tactic(auto)]
 
 pub mod limits;
+pub mod places;
 pub mod rules;
 pub mod shown;
 
+pub use places::Place;
 pub use rules::{Fault, Layer, Party, Rule};

@@ -2,7 +2,9 @@
 ghost use Rattle.std.specs.Prelude.{◌≡◌};
 ghost use Rattle.fault.specs.Rules.{number_of, layer_of, party_of};
 
-#[derive(Clone, Copy, Debug)]
+use crate::places::Place;
+
+#[derive(Clone, Copy, Debug, PartialEq, Eq)]
 pub enum Rule {
     // The host passed more than a call takes, or a buffer that is too small.
     TextTooLong,
@@ -42,7 +44,7 @@ pub enum Rule {
 }
 
 // The part of the engine that refuses.
-#[derive(Clone, Copy)]
+#[derive(Clone, Copy, Debug, PartialEq, Eq)]
 pub enum Layer {
     Host,
     Scan,
@@ -58,7 +60,7 @@ pub enum Layer {
 }
 
 // Who can mend it.
-#[derive(Clone, Copy)]
+#[derive(Clone, Copy, Debug, PartialEq, Eq)]
 pub enum Party {
     Writer,
     Run,
@@ -66,12 +68,11 @@ pub enum Party {
     Host,
 }
 
-// A refusal: the rule with its number and layer, and the place. Lines count from 1 and bytes from 0; a place outside any text is 0, 0.
-#[derive(Clone, Copy, Debug)]
+// A refusal: the rule with its number and layer, and the place.
+#[derive(Clone, Copy, Debug, PartialEq, Eq)]
 pub struct Fault {
     pub rule: Rule,
-    pub line: u32,
-    pub byte: u32,
+    pub place: Place,
 }
 
 impl Rule {

@@ -2,7 +2,7 @@
 use domain::Domain;
 
 // The words that stand in one production each.
-#[derive(Clone, Copy)]
+#[derive(Clone, Copy, Debug, PartialEq, Eq)]
 pub enum Word {
     Program,
     End,
@@ -26,14 +26,14 @@ pub enum Word {
 }
 
 // `and` and `or`.
-#[derive(Clone, Copy)]
+#[derive(Clone, Copy, Debug, PartialEq, Eq)]
 pub enum Logic {
     And,
     Or,
 }
 
 // `==`, `!=`, `>`, `>=`, `<` and `<=`.
-#[derive(Clone, Copy)]
+#[derive(Clone, Copy, Debug, PartialEq, Eq)]
 pub enum Comparison {
     Equal,
     NotEqual,
@@ -44,21 +44,21 @@ pub enum Comparison {
 }
 
 // `+` and `-`.
-#[derive(Clone, Copy)]
+#[derive(Clone, Copy, Debug, PartialEq, Eq)]
 pub enum Sum {
     Plus,
     Minus,
 }
 
 // `*` and `/`.
-#[derive(Clone, Copy)]
+#[derive(Clone, Copy, Debug, PartialEq, Eq)]
 pub enum Product {
     Times,
     Divide,
 }
 
 // The signs that are no operator.
-#[derive(Clone, Copy)]
+#[derive(Clone, Copy, Debug, PartialEq, Eq)]
 pub enum Sign {
     LeftParenthesis,
     RightParenthesis,
@@ -72,7 +72,7 @@ pub enum Sign {
 }
 
 // A token; names, integers and strings are parts of the script, a string without its quotes.
-#[derive(Clone, Copy)]
+#[derive(Clone, Copy, Debug, PartialEq, Eq)]
 pub enum Token<'a> {
     End,
     Word(Word),
@@ -89,7 +89,7 @@ pub enum Token<'a> {
 }
 
 // A token and where it begins: lines count from 1, bytes from 0.
-#[derive(Clone, Copy)]
+#[derive(Clone, Copy, Debug, PartialEq, Eq)]
 pub struct Lexeme<'a> {
     pub token: Token<'a>,
     pub line: u32,
