@@ -4,7 +4,7 @@ use Rattle.fault.specs.declared.rules.Fault.{Fault}
 use Rattle.words.specs.declared.tallies.Tally.{Tally}
 use Rattle.words.specs.declared.tokens.Token.{Token as Borrowed}
 use Rattle.words.specs.declared.tokens.Token.TheVariants as borrowed
-use Rattle.words.specs.Lexing.{Spot, Scan.ended, Scan.faulty, place, next, tokens_from}
+use Rattle.words.specs.Lexing.{Spot, Scan.ended, Scan.faulty, next, tokens_from}
 use Rattle.words.specs.Tallies.{total, counted_as, tallied}
 use Rattle.words.specs.Tokens.{Place, Terminal}
 use Rattle.words.specs.Tokens.{Terminal.word, Terminal.domain, Terminal.logic, Terminal.truth, Terminal.sign, Terminal.comparison, Terminal.sum, Terminal.product, Terminal.name, Terminal.integer, Terminal.string, Terminal.broken}
@@ -28,7 +28,7 @@ counted_total (Some (string bs)) l y = omega arith
 counted_total (Some (broken r)) l y = omega arith
 
 -- a fault is the answer
-pub tally_broken : (y : Tally) (s : Spot) (f : Fault) (whole : Result Tally Fault) → faulty f.rule (place f.line f.byte) ≡ next s →
+pub tally_broken : (y : Tally) (s : Spot) (f : Fault) (whole : Result Tally Fault) → faulty f.rule f.place ≡ next s →
     tallied y (tokens_from s) ≡ whole → Err f ≡ whole
 tally_broken y s f whole h e = ap (tallied y) (sym (tokens_broken s _ _ (sym h))) ∙ e
 

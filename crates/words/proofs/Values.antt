@@ -1,5 +1,5 @@
 -- The value of digits: it only grows as digits follow.
-use Rattle.std.proofs.Common.{◌≡◌, ℕ, ◌+◌, ◌-◌, ◌*◌, ◌≤◌, cond, leb, List, [], ◌∷◌, length, get_or, Some, None, arith}
+use Rattle.std.proofs.Common.{◌≡◌, ℕ, ◌+◌, ◌-◌, ◌*◌, ◌≤◌, cond, leb, List, [], ◌∷◌, Some, None, arith}
 use Rattle.std.proofs.lemmas.Bool.Decides.{nat_tests}
 use Rattle.words.specs.Numbers.{value_on, value_of, value_within}
 
@@ -9,7 +9,6 @@ value_grows v [] = omega arith
 value_grows v (d ∷ ds) = let on = value_grows (10 * v + (d - 48)) ds in omega arith
 
 -- a value that leaves the limit with one digit has left it for good
-pub past_the_limit : (limit v : ℕ) (ds all : List ℕ) → 1 ≤ length ds → value_on v ds ≡ value_of all →
-    None ≡ cond (leb (10 * v + (get_or ds 0 0 - 48)) limit) (Some (10 * v + (get_or ds 0 0 - 48))) None → None ≡ value_within limit all
-past_the_limit limit v [] all some whole h = absurd (omega arith)
-past_the_limit limit v (d ∷ ds) all some whole h = let on = value_grows (10 * v + (d - 48)) ds in grind (arith, nat_tests)
+pub past_the_limit : (limit v d : ℕ) (ds all : List ℕ) → value_on v (d ∷ ds) ≡ value_of all →
+    None ≡ cond (leb (10 * v + (d - 48)) limit) (Some (10 * v + (d - 48))) None → None ≡ value_within limit all
+past_the_limit limit v d ds all whole h = let on = value_grows (10 * v + (d - 48)) ds in grind (arith, nat_tests)

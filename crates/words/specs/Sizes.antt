@@ -2,6 +2,7 @@
 use Rattle.std.specs.Prelude.{◌≡◌, ℕ, ◌<◌, ◌≤◌, List, Ok, Err, vec_items, vec_len, Result, Vec}
 use Rattle.std.specs.declared.alloc.Global.{Global}
 use Rattle.fault.specs.Limits.{script_bytes}
+use Rattle.fault.specs.Places.{nowhere}
 use Rattle.fault.specs.declared.rules.Fault.{Fault}
 use Rattle.fault.specs.declared.rules.Rule.TheVariants.{TextTooLong}
 use Rattle.words.specs.declared.texts.Text.{Text}
@@ -12,7 +13,7 @@ text_bytes t = vec_items t.bytes
 
 -- the fault of a text that is too long, outside any place
 abbrev pub too_long : Fault
-too_long = record { rule = TextTooLong; line = 0; byte = 0 }
+too_long = record { rule = TextTooLong; place = nowhere }
 
 -- bytes that are few enough are the text, others come back with fault 1
 abbrev pub Sized : Vec ℕ Global → Result Text Oversized → Type 0

@@ -47,7 +47,7 @@ counted_as (Some t) l = counted t l
 counted_as None l = λ t. t
 
 abbrev pub fault_at : Rule → Place → Fault
-fault_at r p = record { rule = r; line = p.line; byte = p.byte }
+fault_at r p = record { rule = r; place = p }
 
 -- the rule that a terminal breaks
 abbrev pub breaks : Terminal → Option Rule

@@ -1,6 +1,7 @@
 -- Tokens by what they say: the bytes of a name, an integer or a string, apart from where they lie.
 use Rattle.std.specs.Prelude.{ℕ, Bool, List}
 use Rattle.domain.specs.declared.Domain.{Domain}
+use Rattle.fault.specs.declared.places.Place.{Place as AnyPlace}
 use Rattle.fault.specs.declared.rules.Rule.{Rule}
 use Rattle.words.specs.declared.tokens.Word.{Word}
 use Rattle.words.specs.declared.tokens.Logic.{Logic}
@@ -13,9 +14,8 @@ abbrev pub Bytes : Type 0
 Bytes = List ℕ
 
 -- a line, from 1, and a byte, from 0, counted from the start of the text
-pub record Place : Type 0 where
-  pub line : ℕ
-  pub byte : ℕ
+abbrev pub Place : Type 0
+Place = AnyPlace
 
 -- what a token stands for in the grammar; `broken` is no token, with the rule that it breaks
 pub data Terminal : Type 0 where

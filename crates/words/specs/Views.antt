@@ -1,6 +1,5 @@
 -- What the code's values say, apart from where their bytes lie. References are compared through these views alone.
 use Rattle.std.specs.Prelude.{◌≡◌, ℕ, ◌+◌, ◌≤◌, length, Some, None, Ok, Err, Option, Result}
-use Rattle.fault.specs.Limits.{script_bytes}
 use Rattle.fault.specs.declared.rules.Fault.{Fault}
 use Rattle.words.specs.declared.cursors.Cursor.{Cursor}
 use Rattle.words.specs.declared.cursors.Found.{Found}
@@ -8,20 +7,15 @@ use Rattle.words.specs.declared.scanners.Scanner.{Scanner}
 use Rattle.words.specs.declared.tokens.Lexeme.{Lexeme}
 use Rattle.words.specs.declared.tokens.Token.{Token as Borrowed}
 use Rattle.words.specs.declared.tokens.Token.TheVariants as borrowed
-use Rattle.words.specs.Lexing.{Spot, place, Scan, Scan.found, Scan.ended, Scan.faulty}
+use Rattle.words.specs.Lexing.{Spot, Scan, Scan.found, Scan.ended, Scan.faulty}
 use Rattle.words.specs.Tokens.{Place, Terminal, Token.◌at◌}
 use Rattle.words.specs.Tokens.{Terminal.word, Terminal.domain, Terminal.logic, Terminal.truth, Terminal.sign, Terminal.comparison, Terminal.sum, Terminal.product, Terminal.name, Terminal.integer, Terminal.string}
 
 abbrev pub spot_of : Cursor → Spot
-spot_of c = record { rest = c.rest.now; here = place c.line c.byte }
+spot_of c = record { rest = c.rest.now; here = c.place }
 
 abbrev pub standing : Scanner → Spot
-standing c = record { rest = c.rest.now; here = place c.line c.byte }
-
--- lines and bytes are so small that they never leave their type
-pub record Small (s : Spot) : Type 0 where
-  pub within : s.here.byte + length s.rest ≤ script_bytes
-  pub lines : s.here.line ≤ s.here.byte + 1
+standing s = spot_of s.at
 
 -- the terminal that a token says; the end of the text says none
 abbrev pub spoken : Borrowed → Option Terminal
@@ -51,17 +45,17 @@ weight None = 0
 -- what reading one token at a spot answers
 abbrev pub found_at : Spot → Result Found Fault → Scan
 found_at s (Ok f) = heard (spoken f.token) s.here (spot_of f.after)
-found_at s (Err f) = faulty f.rule (place f.line f.byte)
+found_at s (Err f) = faulty f.rule f.place
 
 -- the token takes its bytes from what is left
 abbrev pub Onward : Spot → Result Found Fault → Type 0
-Onward s (Ok f) = Small (spot_of f.after) × (length f.after.rest.now + weight (spoken f.token) ≤ length s.rest)
+Onward s (Ok f) = length f.after.rest.now + weight (spoken f.token) ≤ length s.rest
 Onward s (Err f) = Unit {0}
 
 -- what a scanner answers, by where it stands then
 abbrev pub answer : Spot → Result Lexeme Fault → Scan
-answer s (Ok l) = heard (spoken l.token) (place l.line l.byte) s
-answer s (Err f) = faulty f.rule (place f.line f.byte)
+answer s (Ok l) = heard (spoken l.token) l.place s
+answer s (Err f) = faulty f.rule f.place
 
 -- a token leaves less of the text; a fault leaves the scanner where it was
 abbrev pub Moved : Spot → Spot → Result Lexeme Fault → Type 0

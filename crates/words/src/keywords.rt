@@ -1,9 +1,11 @@
 // The 26 words that are no names. specs/Spelling.antt has them as a table; here each is compared with the bytes.
-ghost use Rattle.std.specs.Prelude.{◌≡◌};
+ghost use Rattle.std.specs.Prelude.{◌≡◌, Some};
 ghost use Rattle.std.specs.Str.{bytes_eq};
+ghost use Rattle.words.specs.Lexing.{keyword_terminal};
 ghost use Rattle.words.specs.Spelling.{statement_word, operator_word, value_word, keyword_of};
+ghost use Rattle.words.specs.Views.{spoken};
 
-use crate::tokens::{Logic, Word};
+use crate::tokens::{Logic, Token, Word};
 use domain::Domain;
 
 #[derive(Clone, Copy)]
@@ -14,10 +16,24 @@ pub enum Keyword {
     Truth(bool),
 }
 
-fn same(a: &[u8], b: &[u8]) -> bool
-    ensures { result ≡ bytes_eq a.now b.now }
+impl<'a> From<Keyword> for Token<'a> {
+    ghost from_gives = { λ k t. spoken t ≡ Some (keyword_terminal k) };
+
+    fn from(keyword: Keyword) -> Token<'a> {
+        match keyword {
+            Keyword::Word(word) => Token::Word(word),
+            Keyword::Domain(domain) => Token::Domain(domain),
+            Keyword::Logic(logic) => Token::Logic(logic),
+            Keyword::Truth(truth) => Token::Truth(truth),
+        }
+    }
+}
+
+// A whole word at a time: a `match` on the spellings compares byte by byte, and its proof has a case for each byte of each word.
+fn same(bytes: &[u8], spelling: &[u8]) -> bool
+    ensures { result ≡ bytes_eq bytes.now spelling.now }
 {
-    a == b
+    bytes == spelling
 }
 
 // The words of programs and statements.
@@ -123,11 +139,7 @@ fn value_word(bytes: &[u8]) -> Option<Keyword>
 pub fn keyword_of(bytes: &[u8]) -> Option<Keyword>
     ensures { result ≡ keyword_of bytes.now }
 {
-    if let Some(keyword) = statement_word(bytes) {
-        return Some(keyword);
-    }
-    if let Some(keyword) = operator_word(bytes) {
-        return Some(keyword);
-    }
-    value_word(bytes)
+    statement_word(bytes)
+        .or_else(|| operator_word(bytes))
+        .or_else(|| value_word(bytes))
 }

@@ -14,13 +14,13 @@ pub enum Class {
 pub fn is_letter(b: u8) -> bool
     ensures { result ≡ letter b }
 {
-    (b >= b'a' && b <= b'z') || (b >= b'A' && b <= b'Z')
+    b.is_ascii_alphabetic()
 }
 
 pub fn is_digit(b: u8) -> bool
     ensures { result ≡ digit b }
 {
-    b >= b'0' && b <= b'9'
+    b.is_ascii_digit()
 }
 
 fn is_name_byte(b: u8) -> bool
@@ -46,14 +46,7 @@ pub fn run_length(class: Class, text: &[u8]) -> usize
     ensures within { result ≤ length text.now }
     ensures value { result ≡ run (in_class class) text.now }
 {
-    let mut count = 0;
-    let mut rest = text;
-    while let [b, after @ ..] = rest {
-        if !class.holds(*b) {
-            break;
-        }
-        count += 1;
-        rest = after;
-    }
-    count
+    text.iter()
+        .position(|b| !class.holds(*b))
+        .unwrap_or(text.len())
 }

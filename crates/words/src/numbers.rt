@@ -7,11 +7,13 @@ ghost use Rattle.words.specs.Numbers.{value_within};
 fn appended(value: u64, digit: u8, limit: u64) -> Option<u64>
     ensures { result ≡ (if nat_le (10 * value + (digit - 48)) limit then Some (10 * value + (digit - 48)) else None) }
 {
-    let next = 10 * (value as u128) + digit.saturating_sub(b'0') as u128;
-    if next > limit as u128 {
+    let next = value
+        .checked_mul(10)?
+        .checked_add(digit.saturating_sub(b'0') as u64)?;
+    if next > limit {
         return None;
     }
-    Some(next as u64)
+    Some(next)
 }
 
 // The value of the digits where it is at most the limit, however many zeros stand in front.
@@ -19,10 +21,8 @@ pub fn value_within(digits: &[u8], limit: u64) -> Option<u64>
     ensures { result ≡ value_within limit digits.now }
 {
     let mut value = 0;
-    let mut rest = digits;
-    while let [b, after @ ..] = rest {
-        value = appended(value, *b, limit)?;
-        rest = after;
+    for digit in digits {
+        value = appended(value, *digit, limit)?;
     }
     Some(value)
 }

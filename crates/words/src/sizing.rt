@@ -4,7 +4,7 @@ ghost use Rattle.words.specs.Sizes.{Sized, text_bytes};
 
 use crate::texts::Text;
 use fault::limits::SCRIPT_BYTES;
-use fault::{Fault, Rule};
+use fault::{Fault, Place, Rule};
 
 // Bytes that are no text, handed back with the fault.
 #[derive(Drop)]
@@ -20,11 +20,7 @@ impl Text {
     {
         if bytes.len() > SCRIPT_BYTES {
             return Err(Oversized {
-                fault: Fault {
-                    rule: Rule::TextTooLong,
-                    line: 0,
-                    byte: 0,
-                },
+                fault: Place::NOWHERE.fault(Rule::TextTooLong),
                 bytes,
             });
         }

@@ -2,7 +2,7 @@
 ghost use Rattle.std.specs.Prelude.{◌≡◌};
 ghost use Rattle.words.specs.Spans.{part_of, bytes_of};
 
-#[derive(Clone, Copy)]
+#[derive(Clone, Copy, Debug, PartialEq, Eq)]
 pub struct Span {
     pub start: u16,
     pub len: u8,
@@ -15,9 +15,6 @@ impl Span {
     {
         let start = self.start as usize;
         let end = start + self.len as usize;
-        if end > text.len() {
-            return None;
-        }
-        Some(&text[start..end])
+        text.get(start..end)
     }
 }

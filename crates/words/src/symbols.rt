@@ -1,9 +1,11 @@
 // The signs. The remaining bytes are taken apart, two and the rest first, then one and the rest, so that `==` comes before `=`.
-ghost use Rattle.std.specs.Prelude.{◌≡◌, ◌<◌, length, IfSome};
+ghost use Rattle.std.specs.Prelude.{◌≡◌, ◌<◌, length, Some, IfSome};
 ghost use Rattle.words.specs.Spelling.{symbol_at, pair_of, single_of};
 ghost use Rattle.words.specs.Fronts.{front_of};
+ghost use Rattle.words.specs.Lexing.{symbol_terminal};
+ghost use Rattle.words.specs.Views.{spoken};
 
-use crate::tokens::{Comparison, Product, Sign, Sum};
+use crate::tokens::{Comparison, Product, Sign, Sum, Token};
 
 #[derive(Clone, Copy)]
 pub enum Symbol {
@@ -11,6 +13,19 @@ pub enum Symbol {
     Comparison(Comparison),
     Sum(Sum),
     Product(Product),
+}
+
+impl<'a> From<Symbol> for Token<'a> {
+    ghost from_gives = { λ x t. spoken t ≡ Some (symbol_terminal x) };
+
+    fn from(symbol: Symbol) -> Token<'a> {
+        match symbol {
+            Symbol::Sign(sign) => Token::Sign(sign),
+            Symbol::Comparison(comparison) => Token::Comparison(comparison),
+            Symbol::Sum(sum) => Token::Sum(sum),
+            Symbol::Product(product) => Token::Product(product),
+        }
+    }
 }
 
 // A sign, and the bytes behind it.
@@ -68,10 +83,7 @@ pub fn take_symbol<'a>(text: &'a [u8]) -> Option<Signed<'a>>
         }
     }
     match text {
-        [a, rest @ ..] => match single(*a) {
-            Some(symbol) => Some(Signed { symbol, rest }),
-            None => None,
-        },
+        [a, rest @ ..] => single(*a).map(|symbol| Signed { symbol, rest }),
         [] => None,
     }
 }

@@ -12,7 +12,7 @@ use crate::texts::Text;
 use crate::tokens::Token;
 use fault::Fault;
 
-#[derive(Clone, Copy)]
+#[derive(Clone, Copy, Debug, Default, PartialEq, Eq)]
 pub struct Tally {
     pub words: u32,
     pub names: u32,
@@ -52,19 +52,12 @@ pub fn scan(text: &Text) -> Result<Tally, Fault>
     ensures tally { result ≡ tallied nothing (tokens (text_bytes text.now)) }
 {
     let mut scanner = Scanner::new(text);
-    let mut tally = Tally {
-        words: 0,
-        names: 0,
-        integers: 0,
-        strings: 0,
-        signs: 0,
-        lines: 0,
-    };
+    let mut tally = Tally::default();
     loop {
         let lexeme = scanner.next()?;
         if let Token::End = lexeme.token {
             return Ok(tally);
         }
-        tally = tally.count(lexeme.token, lexeme.line);
+        tally = tally.count(lexeme.token, lexeme.place.line);
     }
 }

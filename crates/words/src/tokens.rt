@@ -1,5 +1,6 @@
 // What a script's text is made of. Tokens that share a production of the grammar are one case with an enum of its own.
 use domain::Domain;
+use fault::Place;
 
 // The words that stand in one production each.
 #[derive(Clone, Copy, Debug, PartialEq, Eq)]
@@ -88,10 +89,9 @@ pub enum Token<'a> {
     Text(&'a [u8]),
 }
 
-// A token and where it begins: lines count from 1, bytes from 0.
+// A token and where it begins.
 #[derive(Clone, Copy, Debug, PartialEq, Eq)]
 pub struct Lexeme<'a> {
     pub token: Token<'a>,
-    pub line: u32,
-    pub byte: u32,
+    pub place: Place,
 }

@@ -1,14 +1,17 @@
-use Rattle.std.proofs.Common.{arith}
-use Rattle.std.proofs.lemmas.Bool.Decides.{nat_tests}
-use Rattle.words.proofs.Cuts.{cut_none, cut_one}
+-- The first byte that is not of the class ends the run.
+use Rattle.std.proofs.Common.{◌≡◌, true, false, refl, arith, rules}
+use Rattle.std.proofs.lemmas.Iterator.{YieldsList-from_slice, IsFirst-from_position, index_from_first}
+use Rattle.words.specs.Letters.{belongs, run}
 use Rattle.words.proofs.letters.run_length.Goals as goal
+use borrow.Author.Tests.{tests}
 
-pub loop-rest-preserved : goal.loop-rest-preserved
-loop-rest-preserved c =
-    let s = c.loop-rest.rest.now in
-    (grind (arith, nat_tests, cut_none s, cut_one s), grind (arith, nat_tests, cut_none s, cut_one s))
-
-pub returns-in_default : goal.returns-in_default
-returns-in_default c =
-    let s = c.loop-rest.rest.now in
-    record { within = grind (arith, nat_tests, cut_none s, cut_one s); value = grind (arith, nat_tests, cut_none s, cut_one s) }
+pub returns-clause-value : goal.returns-clause-value
+returns-clause-value c =
+    let p = belongs c.args.class in
+    grind (
+      arith,
+      c.unwrap_or.ensures,
+      index_from_first (run p) (λ b. p b ≡ false) (λ b. p b ≡ true) refl (λ b bs h. rw (h, run) refl) (λ b bs h. rw (h, run) refl) c.args.text.now c.position.result
+          (IsFirst-from_position _ _ _ (λ b. p b ≡ false) (λ b. p b ≡ true) c.position.ensures.ran (YieldsList-from_slice c.args.text.now c.iter.ensures.rest)
+          (λ x q k. search (rules, tests)) (λ x q k. search (rules, tests))),
+    )

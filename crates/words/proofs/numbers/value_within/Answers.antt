@@ -1,19 +1,12 @@
-use Rattle.std.proofs.Common.{arith}
-use Rattle.std.proofs.lemmas.Bool.Decides.{nat_tests}
-use Rattle.words.proofs.Cuts.{cut_none, cut_one}
+use Rattle.std.proofs.Common.{ap, sym, ◌∙◌, get_or, drop, suc, drop-cons, arith}
+use Rattle.words.specs.Numbers.{value_on}
 use Rattle.words.proofs.Values.{past_the_limit}
 use Rattle.words.proofs.numbers.value_within.Goals as goal
 
 pub returns-in_err-value : goal.returns-in_err-value
 returns-in_err-value c =
-    rw c.from_residual.ensures
-    (past_the_limit c.args.limit c.loop-rest.value c.loop-rest.rest.now c.args.digits.now (grind arith) c.loop-rest.invariant.3 c.in_err-value.ensures)
-
-pub loop-rest-preserved : goal.loop-rest-preserved
-loop-rest-preserved c =
-    let s = c.loop-rest.rest.now in
-    let e = c.in_ok-value.ensures in
-    (grind (arith, nat_tests, cut_one s), grind (arith, nat_tests, e), grind (arith, nat_tests, e), grind (arith, nat_tests, cut_one s, e))
-
-pub returns : goal.returns
-returns c = let s = c.loop-rest.rest.now in grind (arith, nat_tests, cut_none s)
+    let i = c.loop-digit.digit-index in
+    let ds = c.args.digits.now in
+    let v = c.loop-digit.value in
+    let whole = ap (value_on v) (sym (drop-cons ds i 0 (omega arith))) ∙ c.loop-digit.invariant.2 in
+    rw c.from_residual.ensures (past_the_limit c.args.limit v (get_or ds i 0) (drop (suc i) ds) ds whole c.in_err-value.ensures)

@@ -1,6 +1,5 @@
 use Rattle.std.proofs.Common.{sym, ap, ◌∙◌, arith}
 use Rattle.std.proofs.lemmas.Result.{err_from_is_err_and}
-use Rattle.words.specs.Lexing.{place}
 use Rattle.words.specs.Sizes.{text_bytes}
 use Rattle.words.specs.Tallies.{tallied}
 use Rattle.words.specs.Lexing.{tokens_from}
@@ -22,7 +21,7 @@ pub returns-in-End : goal.returns-in-End
 returns-in-End c =
     let l = c.in_ok-lexeme.lexeme in
     let after = standing c.next.new.self in
-    let heard-end = ap (λ t. heard (spoken t) (place l.line l.byte) after) (sym c.in-End.is) in
+    let heard-end = ap (λ t. heard (spoken t) l.place after) (sym c.in-End.is) in
     record {
       scanned = every_text_is_scanned (text_bytes c.args.text.now);
       one = one_list_of_tokens;
@@ -34,9 +33,9 @@ loop-lexeme-preserved c =
     let l = c.in_ok-lexeme.lexeme in
     let after = standing c.next.new.self in
     let e = c.count-tally.ensures in
-    let n = counted_total (spoken l.token) l.line c.loop-lexeme.tally in
+    let n = counted_total (spoken l.token) l.place.line c.loop-lexeme.tally in
     let m = c.in_ok-lexeme.ensures in (
       rw e (omega (arith, n, m.moved, c.loop-lexeme.invariant.0)),
       ap (λ y. tallied y (tokens_from after)) e
-          ∙ tally_more c.loop-lexeme.tally (standing c.loop-lexeme.scanner) after l.token (place l.line l.byte) _ m.value c.in_default.not-End c.loop-lexeme.invariant.1,
+          ∙ tally_more c.loop-lexeme.tally (standing c.loop-lexeme.scanner) after l.token l.place _ m.value c.in_default.not-End c.loop-lexeme.invariant.1,
     )
