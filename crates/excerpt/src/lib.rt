@@ -9,22 +9,22 @@ ghost use Rattle.excerpt.specs.Excerpts.{LineStart, LineEnd, printed};
 pub fn line_start(text: &[u8], byte: usize) -> usize
     ensures { LineStart text.now byte result }
 {
-    let mut start = byte.min(text.len());
-    while start > 0 && text[start - 1] != b'\n' {
-        start -= 1;
+    let before = &text[..byte.min(text.len())];
+    match before.iter().rposition(|b| *b == b'\n') {
+        Some(feed) => feed + 1,
+        None => 0,
     }
-    start
 }
 
 // Where the line of a byte ends: at the first line feed from it on, or at the text's end.
 pub fn line_end(text: &[u8], byte: usize) -> usize
     ensures { LineEnd text.now byte result }
 {
-    let mut end = byte.min(text.len());
-    while end < text.len() && text[end] != b'\n' {
-        end += 1;
+    let start = byte.min(text.len());
+    match text[start..].iter().position(|b| *b == b'\n') {
+        Some(feed) => start + feed,
+        None => text.len(),
     }
-    end
 }
 
 // A byte as it is shown: printable ASCII as it stands, a tab as a space, anything else as a question mark.

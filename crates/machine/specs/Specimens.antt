@@ -27,7 +27,7 @@ by_condition going ls n = unfinished
 by_condition (waiting name t i) ls n = unfinished
 by_condition (showing name t x k) ls n = unfinished
 by_condition done ls n = finished ls n
-by_condition (failed f) ls n = stopped ls n (number_of f.rule) f.line f.byte
+by_condition (failed f) ls n = stopped ls n (number_of f.rule) f.place.line f.place.byte
 
 abbrev pub report_of : Run → Report
 report_of r = by_condition r.state.condition r.lines r.steps
@@ -38,7 +38,7 @@ ran_by capacity texts script = report_of (moves 64 (code_of script) (run (begin 
 
 abbrev pub checked_by : ℕ → List Bytes → Answer (Unit {0}) → Block → Report
 checked_by capacity texts (Ok u) b = ran_by capacity texts (planned_program b)
-checked_by capacity texts (Err f) b = refused (number_of f.rule) f.line f.byte
+checked_by capacity texts (Err f) b = refused (number_of f.rule) f.place.line f.place.byte
 
 abbrev pub place_at : List Token → Bytes → Place
 place_at [] text = end_of text

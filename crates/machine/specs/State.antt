@@ -74,7 +74,7 @@ fail r p s =
       contexts = [];
       store = s.store;
       strings = s.strings;
-      condition = failed (record { rule = r; line = p.line; byte = p.byte });
+      condition = failed (record { rule = r; place = p });
     }
 
 -- disorder has no place in the script

@@ -11,7 +11,7 @@ use Rattle.scope.specs.Chains.{Found, size, find, Sees, Absent}
 
 -- a fault of a rule at a place of the script
 abbrev pub fault : Rule → Place → Fault
-fault r p = record { rule = r; line = p.line; byte = p.byte }
+fault r p = record { rule = r; place = p }
 
 -- a variable; a name that does not lie in the text is none, and is never found
 pub record Variable : Type 0 where
