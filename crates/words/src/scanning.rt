@@ -68,8 +68,8 @@ impl<'a> Cursor<'a> {
         Cursor {
             rest: &self.rest[n..],
             place: Place {
-                line: self.place.line,
                 byte: self.place.byte + n as u32,
+                ..self.place
             },
         }
     }
