@@ -3,7 +3,8 @@
 -- A table is its heading, a line for each row, and `end`; an atom is one line. Every line ends in a line feed.
 use Rattle.std.specs.Prelude.{◌≡◌, ℕ, suc, ◌+◌, ◌-◌, ◌*◌, ◌≤◌, Bool, true, false, cond, ◌&&◌, List, [], ◌∷◌, ◌++◌, length, ℤ, pos, neg_ℤ, Some, None, codes, Option, nat_le}
 use Rattle.fault.specs.Limits.{string_bytes, name_bytes, integer_max}
-use Rattle.words.specs.Letters.{letter, digit, name_byte, plain, every}
+use Rattle.words.specs.Letters.{letter, digit, name_byte, plain}
+use Rattle.std.specs.List.{list_all}
 use Rattle.domain.specs.declared.Domain.{Domain}
 use Rattle.domain.specs.declared.Domain.TheVariants.{Integer, String, Boolean}
 use Rattle.domain.specs.Domains.{letter_of}
@@ -35,7 +36,7 @@ least = integer_max + 1
 
 -- further digits behind the number n, while the number stays within the limit
 abbrev pub FurtherDigits : ℕ → ℕ → Format ℕ
-FurtherDigits limit n m p = (every digit p ≡ true) × (m ≡ worth n p) × (m ≤ limit)
+FurtherDigits limit n m p = (list_all digit p ≡ true) × (m ≡ worth n p) × (m ≤ limit)
 
 -- a number from 1 to the limit: a digit from 1 to 9, then further digits
 abbrev pub CountText : ℕ → Format ℕ
@@ -53,10 +54,10 @@ quote = codes "\""
 
 -- at most n plain bytes, and the closing quote
 abbrev pub QuotedText : ℕ → Format (List ℕ)
-QuotedText n bytes p = (every plain bytes ≡ true) × (length bytes ≤ n) × (p ≡ bytes ++ quote)
+QuotedText n bytes p = (list_all plain bytes ≡ true) × (length bytes ≤ n) × (p ≡ bytes ++ quote)
 
 abbrev pub StringText : Format (List ℕ)
-StringText bytes p = (every plain bytes ≡ true) × (length bytes ≤ string_bytes) × (p ≡ quote ++ (bytes ++ quote))
+StringText bytes p = (list_all plain bytes ≡ true) × (length bytes ≤ string_bytes) × (p ≡ quote ++ (bytes ++ quote))
 
 -- Booleans.
 
@@ -74,7 +75,7 @@ ValueText Boolean = Given boolean BooleanText
 -- a letter, then letters, digits and underscores
 abbrev pub is_name : List ℕ → Bool
 is_name [] = false
-is_name (b ∷ n) = letter b && (every name_byte n && nat_le (suc (length n)) name_bytes)
+is_name (b ∷ n) = letter b && (list_all name_byte n && nat_le (suc (length n)) name_bytes)
 
 -- the name that a heading has for a column; bytes that are no name are none
 abbrev pub shown_name : Option (List ℕ) → Option (List ℕ)
