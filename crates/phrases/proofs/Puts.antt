@@ -1,5 +1,5 @@
 -- A part whose last node was just put.
-use Rattle.std.proofs.Common.{◌≡◌, ℕ, suc, ◌+◌, ◌<◌, ◌≤◌, List, length, set, IfOk, Ok, Err, Result, sym, ap, ◌∙◌, subst, arith}
+use Rattle.std.proofs.Common.{◌≡◌, ℕ, suc, ◌+◌, ◌<◌, ◌≤◌, List, length, set, IfOk, None, Ok, Err, Result, sym, ap, ◌∙◌, subst, arith}
 use mathlib.Core.Option.{some}
 use Rattle.fault.specs.declared.rules.Fault.{Fault}
 use Rattle.words.specs.Tokens.{Bytes, Place}
@@ -21,7 +21,7 @@ grounded_counted text b c e g = subst (Grounded text) (sym e) (record { lies = g
 pub done_put : (P : Holding) (text : Bytes) (o : Outcome) (from : ℕ) (a b c : Parser) (xs ys zs : List Node) (w : What) (p : Place) (u : Part) (i : ℕ) →
     c ≡ counted b → zs ≡ set ys b.count (new_node w p) → i ≡ b.count → o ≡ found u (tokens_ahead b) → Grounded text b → Below from xs ys → Beyond b.count xs ys →
     from ≤ b.count → b.count < length ys →
-    (Below b.count ys zs → Says zs b.count w p → (node_at zs b.count).next ≡ 0 → P text zs from (suc b.count) b.count u) →
+    (Below b.count ys zs → Says zs b.count w p → (node_at zs b.count).next ≡ None → P text zs from (suc b.count) b.count u) →
     Answers P text o from a c xs zs (Ok i)
 unfolding Answers
 done_put P text o from a b c xs ys zs w p u i state wrote root value g below beyond low room h =
@@ -92,7 +92,7 @@ numbers_on_later a b c (Err f) h k l n = tt
 -- a node is put on top of what is held: what the next call begins with
 pub put_kept : (P : Holding) (text : Bytes) (from : ℕ) (b c : Parser) (xs ys zs : List Node) (w : What) (p : Place) (u : Part) (i : ℕ) →
     c ≡ counted b → zs ≡ set ys b.count (new_node w p) → i ≡ b.count → Grounded text b → Below from xs ys → Beyond b.count xs ys → from ≤ b.count → b.count < length ys →
-    (Below b.count ys zs → Says zs b.count w p → (node_at zs b.count).next ≡ 0 → P text zs from (suc b.count) b.count u) →
+    (Below b.count ys zs → Says zs b.count w p → (node_at zs b.count).next ≡ None → P text zs from (suc b.count) b.count u) →
     (Grounded text c) × (Below from xs zs) × (Beyond c.count xs zs) × P text zs from c.count i u
 put_kept P text from b c xs ys zs w p u i state wrote root g below beyond low room h =
     let stays : Below b.count ys zs = subst (Below b.count ys) (sym wrote) (below_set b.count b.count ys (new_node w p) (omega arith)) in

@@ -122,10 +122,6 @@ refused_first end (read t r) g f h e = refused_ahead end (g t) r f (h t) e
 pub refused_then : (end : Place) (x : Outcome) (t : Part) (r : List Token) (g : Part → List Token → Outcome) (f : Fault) → x ≡ read t r → refused_by end (g t r) ≡ some f → refused_by end (and_then x g) ≡ some f
 refused_then end x t r g f e h = ap (λ i. refused_by end (and_then i g)) e ∙ h
 
--- a reading whose parts are found
-pub found_then : (x y : Outcome) (t : Part) (r : List Token) (g : Part → List Token → Outcome) → x ≡ read t r → g t r ≡ y → and_then x g ≡ y
-found_then x y t r g e h = ap (λ i. and_then i g) e ∙ h
-
 -- what a step has done
 pub stepped_ok : (text : Bytes) (a b : Parser) (u : Unit {0}) → Stepped text a b (Ok u) → (Grounded text b) × (tokens_ahead b ≡ behind a)
 unfolding Stepped
@@ -216,11 +212,6 @@ expected_ok text w a b u h = h
 pub expected_broken : (text : Bytes) (w : Terminal) (a b : Parser) (f : Fault) → Expected text w a b (Err f) → refused_by (end_of text) (expect_token (w at origin) (tokens_ahead a)) ≡ some f
 unfolding Expected
 expected_broken text w a b f h = h
-
-pub expected_err : (text : Bytes) (w : Terminal) (a b : Parser) (r : Result (Unit {0}) Fault) (y x : Fault) → r ≡ Err y → y ≡ x → refused_by (end_of text) (expect_token (w at origin) (tokens_ahead a)) ≡ some x → Expected text w a b r
-unfolding Expected
-expected_err text w a b (Ok u) y x e i h = absurd (let z : ◌≡◌ {A = ℕ} 0 1 = cc in omega arith)
-expected_err text w a b (Err f) y x e i h = let g : x ≡ f = cc in h ∙ ap some g
 
 -- a reading that has found its part comes to what is no token, if that stands next
 pub found_broken : (end : Place) (o : Outcome) (t : Part) (s : List Token) (f : Fault) → o ≡ read t s → broken_in s ≡ some f → refused_by end o ≡ some f

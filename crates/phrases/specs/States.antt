@@ -5,9 +5,8 @@ use Rattle.fault.specs.declared.rules.Fault.{Fault}
 use Rattle.fault.specs.declared.rules.Rule.{Rule}
 use Rattle.words.specs.Tokens.{Bytes, Place, Terminal, Token, Token.◌at◌, Terminal.word, Terminal.sign, Terminal.domain, Terminal.logic, Terminal.comparison}
 use Rattle.words.specs.Tokens.{Terminal.sum, Terminal.product, Terminal.truth, Terminal.integer, Terminal.string, Terminal.name, Terminal.broken}
-use Rattle.words.specs.Lexing.{place, end_of}
+use Rattle.words.specs.Lexing.{end_of}
 use Rattle.words.specs.Views.{spoken, standing}
-use Rattle.words.specs.declared.tokens.Lexeme.{Lexeme}
 use Rattle.grammar.specs.Parts.{Part, code_in, origin, place_part}
 use Rattle.grammar.specs.Promise.{place_in}
 use Rattle.grammar.specs.Readers.{Cause.cannot_follow, Cause.too_deep, Outcome, Outcome.found, Outcome.refused_at, Reader, expect_token, told}
@@ -19,11 +18,8 @@ use Rattle.phrases.specs.declared.parsers.Parser.{Parser}
 use Rattle.phrases.specs.Places.{pays_ahead, following, Lies, TellsAhead}
 
 -- the place of the token ahead
-abbrev pub lexeme_at : Lexeme → Place
-lexeme_at l = place l.line l.byte
-
 abbrev pub ahead_at : Parser → Place
-ahead_at p = lexeme_at p.ahead
+ahead_at p = p.ahead.place
 
 -- a token before others; the end of the text has none
 abbrev pub before : Option Terminal → Place → List Token → List Token
@@ -53,7 +49,7 @@ code_ahead (Some t) = code_in t
 code_ahead None = 29
 
 abbrev pub fault_at : Rule → Place → Fault
-fault_at r p = record { rule = r; line = p.line; byte = p.byte }
+fault_at r p = record { rule = r; place = p }
 
 -- the fault of what is no token
 abbrev pub broken_at : Terminal → Place → Maybe Fault
@@ -109,7 +105,7 @@ abbrev pub counted : Parser → Parser
 counted p = record { scanner = p.scanner; ahead = p.ahead; count = p.count + 1 }
 
 abbrev pub new_node : What → Place → Node
-new_node w p = record { what = w; line = p.line; byte = p.byte; next = 0 }
+new_node w p = record { what = w; place = p; next = None }
 
 -- nodes are paid for, and a token at least is read
 pub record Numbers (a b : Parser) : Type 0 where

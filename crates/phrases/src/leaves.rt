@@ -10,56 +10,41 @@ ghost use Rattle.phrases.specs.States.{worth, Numbers, Follows};
 
 use crate::parsers::Parser;
 use crate::sorts::Leaf;
-use fault::Fault;
 use fault::limits::INTEGER_MAX;
+use fault::{Fault, Rule};
 use tree::{Node, What};
 use words::numbers::value_within;
 use words::{Lexeme, Span, Token};
 
-// A number of a text; those are in range, so that no text meets the other case.
-fn short(n: u64) -> u16
-    ensures { result ≡ within 65535 n }
-{
-    if n > 65535 {
-        return 0;
-    }
-    n as u16
-}
-
+// A text is so short that both numbers are in range.
 fn span(start: u64, bytes: &[u8]) -> Span
     ensures { result ≡ span_of start bytes.now }
 {
-    let len = bytes.len();
-    if len > 255 {
-        return Span {
-            start: short(start),
-            len: 0,
-        };
-    }
     Span {
-        start: short(start),
-        len: len as u8,
+        start: u16::try_from(start).unwrap_or(0),
+        len: u8::try_from(bytes.len()).unwrap_or(0),
     }
 }
 
+// A token's integer is in range.
 fn integer(digits: &[u8]) -> i64
     ensures { result ≡ integer_of digits.now }
 {
-    match value_within(digits, INTEGER_MAX) {
-        Some(value) => value as i64,
-        None => 0,
-    }
+    value_within(digits, INTEGER_MAX).map_or(0, |value| i64::try_from(value).unwrap_or(0))
 }
 
 // The node that the token is, where a leaf of this sort is due.
 fn leaf_node(leaf: Leaf, at: Lexeme) -> Option<What>
-    ensures { result ≡ leaf_node (leaf_of leaf) (spoken at.entry.token) at.entry.byte }
+    ensures { result ≡ leaf_node (leaf_of leaf) (spoken at.entry.token) at.entry.place.byte }
 {
     match (leaf, at.token) {
-        (Leaf::Name, Token::Name(bytes)) => Some(What::Name(span(at.byte as u64, bytes))),
+        (Leaf::Name, Token::Name(bytes)) => Some(What::Name(span(at.place.byte as u64, bytes))),
         (Leaf::Type, Token::Domain(domain)) => Some(What::AtomicType(domain)),
         (Leaf::Constant, Token::Integer(digits)) => Some(What::Integer(integer(digits))),
-        (Leaf::Constant, Token::Text(bytes)) => Some(What::Text(span(at.byte as u64 + 1, bytes))),
+        (Leaf::Constant, Token::Text(bytes)) => Some(What::Text(span(
+            at.place.byte as u64 + 1,
+            bytes,
+        ))),
         (Leaf::Constant, Token::Truth(truth)) => Some(What::Truth(truth)),
         _ => None,
     }
@@ -79,6 +64,6 @@ pub fn leaf<'a>(parser: &mut Parser<'a>, nodes: &mut [Node], leaf: Leaf) -> Resu
             parser.advance()?;
             Ok(parser.put(nodes, what, at))
         }
-        None => Err(parser.refuse()),
+        None => Err(parser.refuse(Rule::CannotFollow)),
     }
 }

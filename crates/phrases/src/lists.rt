@@ -21,13 +21,7 @@ pub fn link(nodes: &mut [Node], last: u16, next: u16)
     requires inside { last < length nodes.old }
     ensures { nodes.new ≡ slice_set nodes.old last (relinked (node_at nodes.old last) next) }
 {
-    let node = nodes[last as usize];
-    nodes[last as usize] = Node {
-        what: node.what,
-        line: node.line,
-        byte: node.byte,
-        next,
-    };
+    nodes[last as usize].next = Some(next);
 }
 
 // attr-decl → atomic-type id

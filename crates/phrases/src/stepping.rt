@@ -1,97 +1,42 @@
 // One token on, one token expected, one node put.
 ghost use Rattle.std.specs.Prelude.{◌≡◌, ◌+◌, ◌<◌, ◌≤◌, length, OnOk, ◌==◌, slice_set};
-ghost use Rattle.fault.specs.declared.rules.Rule.TheVariants.{CannotFollow, TooDeep};
 ghost use Rattle.words.specs.Tokens.{Bytes};
 ghost use Rattle.grammar.specs.Parts.{code_in};
 ghost use Rattle.phrases.specs.Sorts.{wanted_of};
 ghost use Rattle.words.specs.Views.{spoken};
 ghost use Rattle.phrases.specs.Places.{pays_ahead};
-ghost use Rattle.phrases.specs.States.{ahead_at, lexeme_at, worth, Grounded, code_ahead, fault_at, counted, new_node, Stepped, Expected, Opened};
+ghost use Rattle.phrases.specs.States.{ahead_at, worth, Grounded, code_ahead, fault_at, counted, new_node, Stepped, Expected, Opened};
 
 use crate::parsers::Parser;
 use crate::sorts::Wanted;
 use fault::{Fault, Rule};
 use tree::{Node, What};
-use words::{Lexeme, Sign, Token, Word};
+use words::{Lexeme, Token};
 
-// Words and signs by number.
-fn code_of(wanted: Wanted) -> u8
-    ensures { result ≡ code_in (wanted_of wanted) }
-{
-    match wanted {
-        Wanted::Word(Word::Program) => 0,
-        Wanted::Word(Word::End) => 1,
-        Wanted::Word(Word::Table) => 2,
-        Wanted::Word(Word::If) => 3,
-        Wanted::Word(Word::Then) => 4,
-        Wanted::Word(Word::Else) => 5,
-        Wanted::Word(Word::While) => 6,
-        Wanted::Word(Word::Do) => 7,
-        Wanted::Word(Word::Read) => 8,
-        Wanted::Word(Word::Write) => 9,
-        Wanted::Word(Word::Join) => 10,
-        Wanted::Word(Word::Not) => 11,
-        Wanted::Word(Word::Project) => 12,
-        Wanted::Word(Word::Select) => 13,
-        Wanted::Word(Word::Exists) => 14,
-        Wanted::Word(Word::All) => 15,
-        Wanted::Word(Word::Update) => 16,
-        Wanted::Word(Word::Extend) => 17,
-        Wanted::Word(Word::Rename) => 18,
-        Wanted::Sign(Sign::LeftParenthesis) => 19,
-        Wanted::Sign(Sign::RightParenthesis) => 20,
-        Wanted::Sign(Sign::LeftBracket) => 21,
-        Wanted::Sign(Sign::RightBracket) => 22,
-        Wanted::Sign(Sign::LeftBrace) => 23,
-        Wanted::Sign(Sign::RightBrace) => 24,
-        Wanted::Sign(Sign::Semicolon) => 25,
-        Wanted::Sign(Sign::Comma) => 26,
-        Wanted::Sign(Sign::Assign) => 27,
-    }
-}
-
-// The token's number; those that are no word and no sign have one, and the end of the text another.
-fn code(token: Token) -> u8
-    ensures { result ≡ code_ahead (spoken token.entry) }
+// Whether the token is this word or sign.
+fn is_wanted(token: Token, wanted: Wanted) -> bool
+    ensures { result ≡ (code_in (wanted_of wanted) == code_ahead (spoken token.entry)) }
 {
     match token {
-        Token::Word(word) => code_of(Wanted::Word(word)),
-        Token::Sign(sign) => code_of(Wanted::Sign(sign)),
-        Token::Domain(_) | Token::Logic(_) | Token::Truth(_) => 28,
-        Token::Comparison(_) | Token::Sum(_) | Token::Product(_) => 28,
-        Token::Name(_) | Token::Integer(_) | Token::Text(_) => 28,
-        Token::End => 29,
+        Token::Word(word) => wanted == Wanted::Word(word),
+        Token::Sign(sign) => wanted == Wanted::Sign(sign),
+        _ => false,
     }
 }
 
 impl<'a> Parser<'a> {
-    // The token ahead cannot follow.
-    pub fn refuse(&self) -> Fault
-        ensures { result ≡ fault_at CannotFollow (ahead_at self.now) }
+    // The fault of a rule that the token ahead breaks.
+    pub fn refuse(&self, rule: Rule) -> Fault
+        ensures { result ≡ fault_at rule (ahead_at self.now) }
     {
-        Fault {
-            rule: Rule::CannotFollow,
-            line: self.ahead.line,
-            byte: self.ahead.byte,
-        }
-    }
-
-    // The token ahead opens a depth too many.
-    pub fn too_deep(&self) -> Fault
-        ensures { result ≡ fault_at TooDeep (ahead_at self.now) }
-    {
-        Fault {
-            rule: Rule::TooDeep,
-            line: self.ahead.line,
-            byte: self.ahead.byte,
-        }
+        self.ahead.place.fault(rule)
     }
 
     // Whether the token ahead is this word or sign.
     pub fn sees(&self, wanted: Wanted) -> bool
         ensures { result ≡ (code_in (wanted_of wanted) == code_ahead (spoken self.now.ahead.token)) }
     {
-        code_of(wanted) == code(self.ahead.token)
+        is_wanted(self.ahead.token, wanted)
     }
 
     // Pulls the next token; what is no token is the text's fault.
@@ -111,7 +56,7 @@ impl<'a> Parser<'a> {
         ensures step { (text : Bytes) → Grounded text self.old → Expected text (wanted_of wanted) self.old self.new result }
     {
         if !self.sees(wanted) {
-            return Err(self.refuse());
+            return Err(self.refuse(Rule::CannotFollow));
         }
         self.advance()
     }
@@ -124,7 +69,7 @@ impl<'a> Parser<'a> {
         ensures step { (text : Bytes) → Grounded text self.old → Opened text depth self.old self.new result }
     {
         if depth == 0 {
-            return Err(self.too_deep());
+            return Err(self.refuse(Rule::TooDeep));
         }
         self.advance()?;
         Ok(depth - 1)
@@ -138,14 +83,13 @@ impl<'a> Parser<'a> {
         ensures state { self.new ≡ counted self.old }
         ensures count { self.new.count ≡ self.old.count + 1 }
         ensures worth { worth self.new ≡ worth self.old }
-        ensures nodes { nodes.new ≡ slice_set nodes.old self.old.count (new_node what (lexeme_at at.entry)) }
+        ensures nodes { nodes.new ≡ slice_set nodes.old self.old.count (new_node what at.entry.place) }
     {
         let root = self.count;
         nodes[root as usize] = Node {
             what,
-            line: at.line,
-            byte: at.byte,
-            next: 0,
+            place: at.place,
+            next: None,
         };
         self.count = root + 1;
         root

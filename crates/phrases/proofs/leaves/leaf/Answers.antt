@@ -26,7 +26,7 @@ pub returns-in_ok-advance-in-Some : goal.returns-in_ok-advance-in-Some
 returns-in_ok-advance-in-Some c =
     let n = c.in_ok-advance-in-Some.ensures in
     let one = leaf_some (leaf_of c.args.leaf) in
-    let some = leaf_pays_lem (leaf_of c.args.leaf) (spoken c.args.parser.now.ahead.token) c.args.parser.now.ahead.byte _ c.in-Some.ensures in
+    let some = leaf_pays_lem (leaf_of c.args.leaf) (spoken c.args.parser.now.ahead.token) c.args.parser.now.ahead.place.byte _ c.in-Some.ensures in
     record {
       numbers = numbers_put _ _ _ c.put.ensures.state (omega (arith, n.count, n.paid, some, one)) (omega (arith, n.paid, some, one)) (omega (arith, n.count));
       spare = let e = ap (λ q. q.count) c.put.ensures.state in let w = ap worth c.put.ensures.state in omega (arith, n.count, n.paid, some, e, w);

@@ -8,7 +8,7 @@ returns-then-depth-eq0 c =
     record {
       count = refl;
       paid = tt;
-      step = λ text g. opened_none text _ c.args.self.now c.args.self.now _ c.if-depth-eq0.true c.requires.token g c.too_deep.ensures;
+      step = λ text g. opened_none text _ c.args.self.now c.args.self.now _ c.if-depth-eq0.true c.requires.token g c.refuse.ensures;
     }
 
 pub returns-in_err-advance : goal.returns-in_err-advance
