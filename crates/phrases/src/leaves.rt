@@ -1,6 +1,5 @@
 // The tokens that are a node by themselves: names, atomic types, atomic constants.
 ghost use Rattle.std.specs.Prelude.{◌≡◌, ◌+◌, ◌≤◌, length, pos, OnOk};
-ghost use Rattle.fault.specs.Limits.{nodes as nodes_limit};
 ghost use Rattle.grammar.specs.Readers.{read_leaf};
 ghost use Rattle.words.specs.Views.{spoken};
 ghost use Rattle.phrases.specs.Held.{Held, leaf_level};
@@ -12,7 +11,7 @@ use crate::parsers::Parser;
 use crate::sorts::Leaf;
 use fault::limits::INTEGER_MAX;
 use fault::{Fault, Rule};
-use tree::{Node, What};
+use tree::What;
 use words::numbers::value_within;
 use words::{Lexeme, Span, Token};
 
@@ -51,18 +50,17 @@ fn leaf_node(leaf: Leaf, at: Lexeme) -> Option<What>
 }
 
 // The token ahead as a node.
-pub fn leaf<'a>(parser: &mut Parser<'a>, nodes: &mut [Node], leaf: Leaf) -> Result<u16, Fault>
-    requires room { parser.old.count + worth parser.old ≤ nodes_limit }
-    requires fits { nodes_limit ≤ length nodes.old }
+pub fn leaf(parser: &mut Parser<'_>, leaf: Leaf) -> Result<u16, Fault>
+    ensures lent { parser.new.nodes.ghost_name ≡ parser.old.nodes.ghost_name }
     ensures numbers { OnOk result (Numbers parser.old parser.new) }
     ensures spare { OnOk result (parser.new.count + worth parser.new + leaf_pays (leaf_of leaf) ≤ parser.old.count + worth parser.old + 1) }
-    ensures answer { Follows (Held (leaf_level (leaf_of leaf))) (read_leaf (leaf_of leaf)) parser.old parser.new nodes.old nodes.new result }
+    ensures answer { Follows (Held (leaf_level (leaf_of leaf))) (read_leaf (leaf_of leaf)) parser.old parser.new result }
 {
     let at = parser.ahead;
     match leaf_node(leaf, at) {
         Some(what) => {
             parser.advance()?;
-            Ok(parser.put(nodes, what, at))
+            Ok(parser.put(what, at))
         }
         None => Err(parser.refuse(Rule::CannotFollow)),
     }

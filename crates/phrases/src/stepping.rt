@@ -1,11 +1,13 @@
 // One token on, one token expected, one node put.
-ghost use Rattle.std.specs.Prelude.{◌≡◌, ◌+◌, ◌<◌, ◌≤◌, length, OnOk, ◌==◌, slice_set};
+ghost use Rattle.std.specs.Prelude.{◌≡◌, ◌+◌, ◌<◌, ◌≤◌, List, OnOk, ◌==◌, slice_set};
+ghost use Rattle.fault.specs.Limits.{nodes as nodes_limit};
+ghost use Rattle.tree.specs.declared.nodes.Node.{Node};
 ghost use Rattle.words.specs.Tokens.{Bytes};
 ghost use Rattle.grammar.specs.Parts.{code_in};
 ghost use Rattle.phrases.specs.Sorts.{wanted_of};
 ghost use Rattle.words.specs.Views.{spoken};
 ghost use Rattle.phrases.specs.Places.{pays_ahead};
-ghost use Rattle.phrases.specs.States.{ahead_at, worth, Grounded, code_ahead, fault_at, counted, new_node, Stepped, Expected, Opened};
+ghost use Rattle.phrases.specs.States.{ahead_at, worth, Grounded, code_ahead, fault_at, Counted, new_node, Stepped, Expected, Opened};
 
 use crate::parsers::Parser;
 use crate::sorts::Wanted;
@@ -41,9 +43,10 @@ impl<'a> Parser<'a> {
 
     // Pulls the next token; what is no token is the text's fault.
     pub fn advance(&mut self) -> Result<(), Fault>
+        ensures lent { self.new.nodes.ghost_name ≡ self.old.nodes.ghost_name }
         ensures count { self.new.count ≡ self.old.count }
         ensures paid { OnOk result (worth self.new + pays_ahead (spoken self.old.ahead.token) ≤ worth self.old) }
-        ensures step { (text : Bytes) → Grounded text self.old → Stepped text self.old self.new result }
+        ensures step { (text : Bytes) (arena : List Node) → Grounded text arena self.old → Stepped text arena self.old self.new result }
     {
         self.ahead = self.scanner.next()?;
         Ok(())
@@ -51,9 +54,10 @@ impl<'a> Parser<'a> {
 
     // Passes the token ahead, which has to be this word or sign.
     pub fn expect(&mut self, wanted: Wanted) -> Result<(), Fault>
+        ensures lent { self.new.nodes.ghost_name ≡ self.old.nodes.ghost_name }
         ensures count { self.new.count ≡ self.old.count }
         ensures paid { OnOk result (worth self.new < worth self.old) }
-        ensures step { (text : Bytes) → Grounded text self.old → Expected text (wanted_of wanted) self.old self.new result }
+        ensures step { (text : Bytes) (arena : List Node) → Grounded text arena self.old → Expected text arena (wanted_of wanted) self.old self.new result }
     {
         if !self.sees(wanted) {
             return Err(self.refuse(Rule::CannotFollow));
@@ -64,9 +68,10 @@ impl<'a> Parser<'a> {
     // Passes the token ahead, which opens a depth where so many are left; the answer is how many are left behind it.
     pub fn open(&mut self, depth: u8) -> Result<u8, Fault>
         requires token { 0 < pays_ahead (spoken self.old.ahead.token) }
+        ensures lent { self.new.nodes.ghost_name ≡ self.old.nodes.ghost_name }
         ensures count { self.new.count ≡ self.old.count }
         ensures paid { OnOk result (worth self.new + pays_ahead (spoken self.old.ahead.token) ≤ worth self.old) }
-        ensures step { (text : Bytes) → Grounded text self.old → Opened text depth self.old self.new result }
+        ensures step { (text : Bytes) (arena : List Node) → Grounded text arena self.old → Opened text arena depth self.old self.new result }
     {
         if depth == 0 {
             return Err(self.refuse(Rule::TooDeep));
@@ -76,17 +81,17 @@ impl<'a> Parser<'a> {
     }
 
     // Takes the next entry of the arena for a node at this token.
-    pub fn put(&mut self, nodes: &mut [Node], what: What, at: Lexeme) -> u16
-        requires room { self.old.count < length nodes.old }
-        requires small { self.old.count < 65535 }
+    pub fn put(&mut self, what: What, at: Lexeme) -> u16
+        requires room { self.old.count + 1 + worth self.old ≤ nodes_limit }
+        ensures lent { self.new.nodes.ghost_name ≡ self.old.nodes.ghost_name }
         ensures root { result ≡ self.old.count }
-        ensures state { self.new ≡ counted self.old }
+        ensures state { Counted self.old self.new }
         ensures count { self.new.count ≡ self.old.count + 1 }
         ensures worth { worth self.new ≡ worth self.old }
-        ensures nodes { nodes.new ≡ slice_set nodes.old self.old.count (new_node what at.entry.place) }
+        ensures nodes { self.new.nodes.now ≡ slice_set self.old.nodes.now self.old.count (new_node what at.entry.place) }
     {
         let root = self.count;
-        nodes[root as usize] = Node {
+        self.nodes[root as usize] = Node {
             what,
             place: at.place,
             next: None,
