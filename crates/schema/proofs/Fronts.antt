@@ -1,29 +1,32 @@
--- Lists of columns, from the front.
-use Rattle.std.proofs.Common.{◌≡◌, ℕ, ◌-◌, ◌<◌, ◌≤◌, true, false, ◌&&◌, eqb, List, [], ◌∷◌, map, length, get_or, take, drop, sym, refl, ap, ◌∙◌, arith}
+-- Lists of columns, place by place.
+use Rattle.std.proofs.Common.{◌≡◌, ◌-◌, ◌≤◌, ◌≢◌, Bool, true, false, ◌&&◌, eqb, List, [], ◌∷◌, map, length, get_or, take, drop, sym, refl, ap, ◌∙◌, arith}
+use Rattle.std.specs.List.{zip, list_all}
 use Rattle.std.proofs.lemmas.Bool.Decides.{nat_tests}
-use Rattle.std.proofs.lemmas.List.{take_rest, length-drop, drop_more}
+use Rattle.std.proofs.lemmas.List.{take_rest, drop_more}
 use Rattle.schema.specs.Columns.{Column}
 use Rattle.schema.specs.Sameness.{same_column, same_columns}
 
 pub cut_one : {A : Type 0} (s : List A) (d : A) → 1 ≤ length s → s ≡ get_or s 0 d ∷ take (length s - 1) (drop 1 s)
 cut_one s d h = drop_more s 0 d (omega arith) ∙ ap (λ l. get_or s 0 d ∷ l) (sym (take_rest s 1))
 
--- One column on: equal so far.
-pub same_next : {A B : Type 0} (f : A → Column) (g : B → Column) (xs : List A) (ys : List B) (d : A) (e : B) → 1 ≤ length xs → 1 ≤ length ys → same_column (f (get_or xs 0 d)) (g (get_or ys 0 e)) ≡ true →
-    same_columns (map f (take (length xs - 1) (drop 1 xs))) (map g (take (length ys - 1) (drop 1 ys))) ≡ same_columns (map f xs) (map g ys)
-same_next f g xs ys d e hx hy h = sym (ap (λ b. b && same_columns (map f (take (length xs - 1) (drop 1 xs))) (map g (take (length ys - 1) (drop 1 ys)))) h) ∙ sym (ap (λ l. same_columns (map f l) (map g ys)) (cut_one xs d hx) ∙ ap (λ l. same_columns (map f (get_or xs 0 d ∷ take (length xs - 1) (drop 1 xs))) (map g l)) (cut_one ys e hy))
+module _ {A B : Type 0} (f : A → Column) (g : B → Column) where
+  -- A test of all pairs decides whether lists of one length are the same.
+  pub pairs_tell : (xs : List A) (ys : List B) → length xs ≡ length ys → list_all (λ p. same_column (f p.0) (g p.1)) (zip xs ys) ≡ same_columns (map f xs) (map g ys)
+  pairs_tell [] [] e = refl
+  pairs_tell [] (y ∷ ys) e = absurd (omega arith)
+  pairs_tell (x ∷ xs) [] e = absurd (omega arith)
+  pairs_tell (x ∷ xs) (y ∷ ys) e = ap (λ b. same_column (f x) (g y) && b) (pairs_tell xs ys (omega arith))
 
--- The left list has ended.
-pub same_ended : {A B : Type 0} (f : A → Column) (g : B → Column) (xs : List A) (ys : List B) → true ≡ eqb (length xs) 0 → eqb (length ys) 0 ≡ same_columns (map f xs) (map g ys)
-same_ended f g [] [] h = refl
-same_ended f g [] (y ∷ ys) h = grind (arith, nat_tests)
-same_ended f g (x ∷ xs) ys h = absurd (grind (arith, nat_tests))
+  -- Lists of two lengths are not the same.
+  differ : (xs : List A) (ys : List B) → length xs ≢ length ys → false ≡ same_columns (map f xs) (map g ys)
+  differ [] [] e = absurd (e refl)
+  differ [] (y ∷ ys) e = refl
+  differ (x ∷ xs) [] e = refl
+  differ (x ∷ xs) (y ∷ ys) e = never (same_column (f x) (g y)) ∙ ap (λ b. same_column (f x) (g y) && b) (differ xs ys (omega arith))
+    where
+      never : (b : Bool) → false ≡ (b && false)
+      never true = refl
+      never false = refl
 
--- The right list has ended before the left one.
-pub same_short : {A B : Type 0} (f : A → Column) (g : B → Column) (xs : List A) (ys : List B) → false ≡ eqb (length xs) 0 → length ys < 1 → false ≡ same_columns (map f xs) (map g ys)
-same_short f g [] ys h k = absurd (grind (arith, nat_tests))
-same_short f g (x ∷ xs) [] h k = refl
-same_short f g (x ∷ xs) (y ∷ ys) h k = absurd (omega arith)
-
-pub rest_shorter : {A : Type 0} (s : List A) (n : ℕ) → length s ≤ n → length (take (length s - 1) (drop 1 s)) ≤ n
-rest_shorter s n h = omega (arith, ap length (take_rest s 1), length-drop 1 s)
+  pub lengths_tell : (xs : List A) (ys : List B) → length xs ≢ length ys → eqb (length xs) (length ys) ≡ same_columns (map f xs) (map g ys)
+  lengths_tell xs ys e = let unequal : eqb (length xs) (length ys) ≡ false = grind (arith, nat_tests) in unequal ∙ differ xs ys e

@@ -1,11 +1,10 @@
 -- Arrays of which the first so many count, with more of them.
-use Rattle.std.proofs.Common.{◌≡◌, ℕ, ◌+◌, ◌-◌, ◌<◌, ◌≤◌, Bool, true, false, cond, ltb, leb, List, [], ◌∷◌, ◌++◌, length, get_or, take, drop, set, Some, None, Option, sym, refl, ap, ◌∙◌, arith}
+use Rattle.std.proofs.Common.{◌≡◌, ℕ, ◌+◌, ◌<◌, ◌≤◌, Bool, true, false, cond, ltb, leb, List, [], ◌∷◌, ◌++◌, length, take, set, Some, None, Option, sym, refl, ap, ◌∙◌, arith}
 use Rattle.std.proofs.lemmas.Bool.Decides.{nat_tests}
-use Rattle.std.proofs.lemmas.List.{length-take-le, take_more_set, get_or-take, length-append, append_assoc, nil_from_length, append-nil}
+use Rattle.std.proofs.lemmas.List.{length-take-le, take_more_set, length-append, append_assoc, nil_from_length, append-nil}
 use Rattle.fault.specs.Limits.{columns}
 use Rattle.schema.specs.declared.attributes.Attribute.{Attribute}
-use Rattle.schema.specs.Building.{blank, with_one, with_all, nth}
-use Rattle.schema.proofs.Fronts.{cut_one}
+use Rattle.schema.specs.Building.{with_one, with_all}
 
 -- Written behind the first n, an entry is the last of n + 1.
 pub one_more : {A : Type 0} (most : ℕ) (room : List A) (n : ℕ) (a : A) → length room ≡ most → n < most →
@@ -48,21 +47,6 @@ pub added : (before left : List Attribute) → length left < 1 → length before
 added before left ended few =
     let fits : leb (length before + length left) columns ≡ true = grind (arith, nat_tests) in
     sym (ap (λ b. cond b (Some (before ++ left)) None) fits ∙ ap (λ l. Some (before ++ l)) (nil_from_length left (omega arith)) ∙ ap Some (append-nil before))
-
--- One step from the front of the rest.
-pub grown_front : (before left after : List Attribute) (d : Attribute) → 1 ≤ length left → Some after ≡ with_one before (get_or left 0 d) →
-    with_all after (take (length left - 1) (drop 1 left)) ≡ with_all before left
-grown_front before left after d some_left h = grown before (take (length left - 1) (drop 1 left)) after (get_or left 0 d) h ∙ ap (with_all before) (sym (cut_one left d some_left))
-
-pub full_front : (before left : List Attribute) (d : Attribute) → 1 ≤ length left → None ≡ with_one before (get_or left 0 d) → None ≡ with_all before left
-full_front before left d some_left h = full before (take (length left - 1) (drop 1 left)) (get_or left 0 d) h ∙ ap (with_all before) (sym (cut_one left d some_left))
-
--- The entry at a position of the front.
-pub nth_front : (room : List Attribute) (n position : ℕ) → length room ≡ columns → n ≤ columns → position < n → Some (get_or room position blank) ≡ nth (take n room) position
-nth_front room n position whole few inside =
-    let size : length (take n room) ≡ n = length-take-le n room (omega (arith, whole)) in
-    let within : ltb position (length (take n room)) ≡ true = grind (arith, nat_tests, size) in
-    sym (ap (λ b. cond b (Some (get_or (take n room) position blank)) None) within ∙ ap Some (get_or-take n room position blank inside))
 
 -- With one more, there are not too many.
 pub one_length : (before after : List Attribute) (a : Attribute) → Some after ≡ with_one before a → length after ≤ columns

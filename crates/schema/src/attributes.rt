@@ -2,6 +2,7 @@
 ghost use Rattle.std.specs.Prelude.{◌≡◌};
 ghost use Rattle.words.specs.Spans.{bytes_of};
 ghost use Rattle.schema.specs.Columns.{name_of};
+ghost use Rattle.schema.specs.Building.{blank};
 
 use domain::Domain;
 use words::Span;
@@ -19,5 +20,17 @@ impl Attribute {
     {
         let span = self.name?;
         span.of(text)
+    }
+}
+
+// The attribute that a cleared buffer holds.
+impl Default for Attribute {
+    ghost is_default = { λ a. a ≡ blank };
+
+    fn default() -> Attribute {
+        Attribute {
+            name: None,
+            domain: Domain::Integer,
+        }
     }
 }

@@ -1,24 +1,11 @@
 // How schemas are made: empty, and with one attribute more at the end, while there is room.
 ghost use Rattle.std.specs.Prelude.{◌≡◌, ℕ, ◌+◌, ◌-◌, ◌<◌, ◌≤◌, List, [], length};
 ghost use Rattle.schema.specs.Columns.{held};
-ghost use Rattle.schema.specs.Building.{blank, with_one, with_all, nth, held_by};
+ghost use Rattle.schema.specs.Building.{with_one, with_all, nth, held_by};
 
 use crate::attributes::Attribute;
 use crate::schemas::Schema;
-use domain::Domain;
 use fault::limits::COLUMNS;
-
-impl Attribute {
-    // The attribute that a cleared buffer holds.
-    pub fn blank() -> Attribute
-        ensures { result ≡ blank }
-    {
-        Attribute {
-            name: None,
-            domain: Domain::Integer,
-        }
-    }
-}
 
 impl Schema {
     // No attribute yet.
@@ -26,7 +13,7 @@ impl Schema {
         ensures { held result ≡ [] }
     {
         Schema {
-            attributes: [Attribute::blank(); COLUMNS],
+            attributes: [Attribute::default(); COLUMNS],
             len: 0,
         }
     }
@@ -53,7 +40,7 @@ impl Schema {
             return None;
         }
         let mut longer = self;
-        longer.attributes[longer.len] = attribute;
+        longer.attributes[self.len] = attribute;
         longer.len += 1;
         Some(longer)
     }
@@ -63,10 +50,8 @@ impl Schema {
         ensures { held_by result ≡ with_all (held self) (held other.now) }
     {
         let mut longer = self;
-        let mut left = other.attributes();
-        while let [first, rest @ ..] = left {
-            longer = longer.with(*first)?;
-            left = rest;
+        for attribute in other.attributes() {
+            longer = longer.with(*attribute)?;
         }
         Some(longer)
     }
@@ -75,9 +60,6 @@ impl Schema {
     pub fn get(&self, position: usize) -> Option<Attribute>
         ensures { result ≡ nth (held self.now) position }
     {
-        if position >= self.len {
-            return None;
-        }
-        Some(self.attributes[position])
+        self.attributes().get(position).copied()
     }
 }

@@ -4,11 +4,13 @@
 
 pub mod attributes;
 pub mod building;
+pub mod columns;
 pub mod kinds;
 pub mod sameness;
 pub mod schemas;
 
 pub use attributes::Attribute;
+pub use columns::Columns;
 pub use kinds::Kind;
-pub use sameness::{same_domain, same_name, same_schema, same_type};
+pub use sameness::{same_schema, same_type};
 pub use schemas::Schema;

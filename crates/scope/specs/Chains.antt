@@ -1,5 +1,5 @@
 -- The scope chain: nested lists of entries, innermost first, each with its oldest entry first.
-use Rattle.std.specs.Prelude.{◌≡◌, ℕ, suc, ◌+◌, Bool, true, false, cond, ◌||◌, List, [], ◌∷◌, ◌++◌, length, take, drop, Some, None, Option, nat_lt}
+use Rattle.std.specs.Prelude.{◌≡◌, ℕ, suc, ◌+◌, Bool, true, false, ◌||◌, List, [], ◌∷◌, ◌++◌, length, take, drop, Some, None, Option}
 use Rattle.scope.specs.declared.places.Place.{Place}
 
 -- an entry that was found: how many lists lie further in, where in its list it stands, and where among all entries
@@ -31,10 +31,6 @@ size (inner ∷ outer) = size outer + length inner
 abbrev pub cut : {E : Type 0} → List ℕ → List E → List (List E)
 cut [] entries = entries ∷ []
 cut (start ∷ outer) entries = drop start entries ∷ cut outer (take start entries)
-
--- a start, if it lies within so many entries; else their end
-abbrev pub within : ℕ → ℕ → ℕ
-within start most = cond (nat_lt start most) start most
 
 -- where an entry was found
 abbrev pub place_of : {E : Type 0} → Option (Found E) → Option Place

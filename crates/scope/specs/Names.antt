@@ -1,5 +1,5 @@
 -- Names that may be missing.
-use Rattle.std.specs.Prelude.{Bool, false, Some, None, Option}
+use Rattle.std.specs.Prelude.{ℕ, List, Bool, false, Some, None, Option}
 use Rattle.std.specs.Str.{bytes_eq}
 use Rattle.words.specs.Tokens.{Bytes}
 
@@ -7,3 +7,7 @@ use Rattle.words.specs.Tokens.{Bytes}
 abbrev pub called : Option Bytes → Bytes → Bool
 called None wanted = false
 called (Some name) wanted = bytes_eq name wanted
+
+-- whether an entry, by what a text spells of it, has this name
+abbrev pub named : {E : Type 0} → (List ℕ → E → Option (List ℕ)) → List ℕ → List ℕ → E → Bool
+named spelling text name e = called (spelling text e) name

@@ -6,16 +6,13 @@ ghost use Rattle.scope.specs.Names.{called};
 
 use crate::chain::Named;
 use crate::variables::Variable;
-use schema::{Attribute, same_name};
+use schema::Attribute;
 
 // Whether bytes that may be missing are this name.
 fn is_called(spelling: Option<&[u8]>, name: &[u8]) -> bool
     ensures { result ≡ called (bytes_of spelling.entry) name.now }
 {
-    match spelling {
-        Some(bytes) => same_name(bytes, name),
-        None => false,
-    }
+    spelling.is_some_and(|bytes| bytes == name)
 }
 
 impl Named for Attribute {

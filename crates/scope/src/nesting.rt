@@ -31,7 +31,7 @@ impl Starts {
             return None;
         }
         let mut more = self;
-        more.at[more.len] = start;
+        more.at[self.len] = start;
         more.len += 1;
         Some(more)
     }

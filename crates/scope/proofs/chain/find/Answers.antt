@@ -1,45 +1,43 @@
-use Rattle.std.proofs.Common.{reverse, length, refl, ◌∙◌, arith, rules}
-use Rattle.std.proofs.lemmas.Bool.Decides.{nat_tests}
-use Rattle.scope.specs.Names.{called}
+use Rattle.std.proofs.Common.{◌≡◌, ◌++◌, ◌∷◌, [], reverse, length, arith, rules, ◌∙◌, ap}
+use Rattle.std.specs.Iterator.Adapters.{rev_source, enumerate_source, enumerate_count}
+use Rattle.std.specs.Slice.Iter.{iter_rest}
+use Rattle.std.proofs.lemmas.List.{nil_from_length}
+use Rattle.scope.specs.Names.{named}
 use Rattle.scope.specs.Chains.{cut}
-use Rattle.scope.proofs.Cuts.{outer_shorter, front_shorter, within_all, find_here, find_further, find_outermost, find_nowhere}
+use Rattle.scope.proofs.Cuts.{find_here, find_outermost, find_nowhere}
 use Rattle.scope.proofs.Searches.{search_is}
 use Rattle.scope.proofs.Numbers.{entry_found}
 use Rattle.scope.proofs.chain.find.Goals as goal
 
-pub overflow_add-result : goal.overflow_add-result
-overflow_add-result g c =
-    let found = within_all c.loop-begun.left.now c.start_within-from.result c.in-Some.position c.start_within-from.ensures.bounded (c.in-Some.ensures.inside _ refl) in
-    let all = c.loop-begun.invariant.1 in
-    search rules
-
-pub returns-in-Some : goal.returns-in-Some
-returns-in-Some g c =
+pub returns-in-Some-newest : goal.returns-in-Some-newest
+returns-in-Some-newest g c =
+    let ends : iter_rest (rev_source (enumerate_source c.loop-outward.outward-iterator)) ≡ iter_rest (rev_source (enumerate_source c.next.new.self)) ++ (c.in-Some.start.now ∷ []) = search rules in
+    let counted : c.in-Some.outward ≡ enumerate_count c.loop-outward.outward-iterator = search rules in
     record {
-      value = find_here _ c.loop-begun.begun.now c.loop-begun.left.now c.start_within-from.result c.in-Some.position _ (grind (arith, nat_tests)) c.start_within-from.ensures.value c.in-Some.ensures.value ∙ c.loop-begun.invariant.2;
-      search = search_is (λ e. called (g.E.Named.spelling c.args.text.now e) c.args.name.now) (cut (reverse c.args.starts.now) c.args.entries.now);
-      entry = entry_found _ (reverse c.args.starts.now) c.args.entries.now;
+      value =
+          find_here (named g.E.Named.spelling c.args.text.now c.args.name.now) _ _ c.in-Some.start.now c.min-from.result c.in-Some-newest.position c.in-Some.outward c.loop-outward.left.now ends (search rules) (search rules)
+          ∙ (rw counted c.loop-outward.invariant.same);
+      search = search_is (named g.E.Named.spelling c.args.text.now c.args.name.now) (cut (reverse c.args.starts.now) c.args.entries.now);
+      entry = entry_found (named g.E.Named.spelling c.args.text.now c.args.name.now) (reverse c.args.starts.now) c.args.entries.now;
     }
-
-pub loop-begun-preserved : goal.loop-begun-preserved
-loop-begun-preserved g c = (
-  outer_shorter c.loop-begun.begun.now _ c.loop-begun.invariant.0,
-  front_shorter c.loop-begun.left.now c.start_within-from.result _ c.loop-begun.invariant.1 c.start_within-from.ensures.bounded,
-  find_further _ c.loop-begun.begun.now c.loop-begun.left.now c.start_within-from.result _ (grind (arith, nat_tests)) c.loop-begun.invariant.0 c.start_within-from.ensures.value c.in_default-newest.ensures.value ∙ c.loop-begun.invariant.2,
-)
 
 pub returns-in_err-position : goal.returns-in_err-position
 returns-in_err-position g c =
+    let ended : iter_rest (rev_source (enumerate_source c.loop-outward.outward-iterator)) ≡ [] = nil_from_length _ (search rules) in
     record {
-      value = c.from_residual.ensures ∙ find_nowhere _ c.loop-begun.begun.now c.loop-begun.left.now _ (grind (arith, nat_tests)) c.in_err-position.ensures.value ∙ c.loop-begun.invariant.2;
-      search = search_is (λ e. called (g.E.Named.spelling c.args.text.now e) c.args.name.now) (cut (reverse c.args.starts.now) c.args.entries.now);
-      entry = entry_found _ (reverse c.args.starts.now) c.args.entries.now;
+      value = c.from_residual.ensures ∙ find_nowhere (named g.E.Named.spelling c.args.text.now c.args.name.now) _ c.loop-outward.left.now _ ended c.in_err-position.ensures.value ∙ c.loop-outward.invariant.same;
+      search = search_is (named g.E.Named.spelling c.args.text.now c.args.name.now) (cut (reverse c.args.starts.now) c.args.entries.now);
+      entry = entry_found (named g.E.Named.spelling c.args.text.now c.args.name.now) (reverse c.args.starts.now) c.args.entries.now;
     }
 
 pub returns : goal.returns
 returns g c =
+    let ended : iter_rest (rev_source (enumerate_source c.loop-outward.outward-iterator)) ≡ [] = nil_from_length _ (search rules) in
+    let whole : length c.args.starts.now ≡ enumerate_count c.loop-outward.outward-iterator = omega (arith, c.loop-outward.invariant.counted, ap length ended) in
     record {
-      value = find_outermost _ c.loop-begun.begun.now c.loop-begun.left.now c.in_ok-position.position (length c.args.starts.now) (grind (arith, nat_tests)) c.in_ok-position.ensures.value ∙ c.loop-begun.invariant.2;
-      search = search_is (λ e. called (g.E.Named.spelling c.args.text.now e) c.args.name.now) (cut (reverse c.args.starts.now) c.args.entries.now);
-      entry = entry_found _ (reverse c.args.starts.now) c.args.entries.now;
+      value =
+          find_outermost (named g.E.Named.spelling c.args.text.now c.args.name.now) _ c.loop-outward.left.now c.in_ok-position.position (length c.args.starts.now) ended c.in_ok-position.ensures.value
+          ∙ rw whole c.loop-outward.invariant.same;
+      search = search_is (named g.E.Named.spelling c.args.text.now c.args.name.now) (cut (reverse c.args.starts.now) c.args.entries.now);
+      entry = entry_found (named g.E.Named.spelling c.args.text.now c.args.name.now) (reverse c.args.starts.now) c.args.entries.now;
     }
