@@ -1,38 +1,42 @@
 -- What reading a text adds to the strings: each one that has no number yet, once, by first appearance,
 -- as long as there is room for one string more and for its bytes.
-use Rattle.std.specs.Prelude.{ℕ, ◌-◌, Bool, true, false, cond, ◌&&◌, List, [], ◌∷◌, ◌++◌, length, take, ℤ, pos, Some, None, Option, nat_le}
+use Rattle.std.specs.Prelude.{ℕ, ◌-◌, cond, ◌&&◌, List, [], ◌∷◌, ◌++◌, length, take, ℤ, pos, Some, None, Option, nat_le}
 use Rattle.fault.specs.Limits.{read_strings, read_bytes}
 use Rattle.texts.specs.Language.{Value, Value.integer, Value.string, Value.boolean}
 use Rattle.pool.specs.declared.fresh.Fresh.{Fresh}
-use Rattle.pool.specs.Strings.{position, parts}
+use Rattle.pool.specs.declared.fresh.Room.{Room}
+use Rattle.pool.specs.declared.learning.Source.{Source}
+use Rattle.pool.specs.Strings.{position, parts, numbered}
 
--- the new strings so far, the room that is left, and whether it ever was too little
+-- the new strings so far, and the room that is left; none once there was too little
 pub record Learned : Type 0 where
   pub fresh : List (List ℕ)
-  pub strings : ℕ
-  pub bytes : ℕ
-  pub over : Bool
+  pub room : Option Room
 
 abbrev pub learned_of : List ℕ → Fresh → Learned
-learned_of text f = record { fresh = parts text (take f.count f.spans); strings = f.strings_left; bytes = f.bytes_left; over = f.over }
+learned_of text f = record { fresh = parts text (take f.count f.spans); room = f.room }
 
 -- nothing yet, after so many strings with so many bytes
 abbrev pub nothing_learned : ℕ → ℕ → Learned
-nothing_learned strings bytes = record { fresh = []; strings = read_strings - strings; bytes = read_bytes - bytes; over = false }
+nothing_learned strings bytes = record { fresh = []; room = Some (record { strings = read_strings - strings; bytes = read_bytes - bytes }) }
 
-abbrev pub with_string : Learned → List ℕ → Learned
-with_string l s = record { fresh = l.fresh ++ (s ∷ []); strings = l.strings - 1; bytes = l.bytes - length s; over = l.over }
+-- the room that a string leaves, if it fits
+abbrev pub room_after : Room → List ℕ → Option Room
+room_after r s = cond (nat_le 1 r.strings && nat_le (length s) r.bytes) (Some (record { strings = r.strings - 1; bytes = r.bytes - length s })) None
 
-abbrev pub over_full : Learned → Learned
-over_full l = record { fresh = l.fresh; strings = l.strings; bytes = l.bytes; over = true }
+-- a new string, which is kept if it leaves room
+abbrev pub with_string : List (List ℕ) → List ℕ → Option Room → Learned
+with_string fresh s None = record { fresh = fresh; room = None }
+with_string fresh s (Some r) = record { fresh = fresh ++ (s ∷ []); room = Some r }
 
--- a string that has a number already, or a new one
-abbrev pub learn_on : Option ℕ → Learned → List ℕ → Learned
-learn_on (Some n) l s = l
-learn_on None l s = cond (nat_le 1 l.strings && nat_le (length s) l.bytes) (with_string l s) (over_full l)
+-- a string that has a number already, or a new one, while there is room
+abbrev pub learn_on : Option ℕ → List (List ℕ) → Option Room → List ℕ → Learned
+learn_on number fresh None s = record { fresh = fresh; room = None }
+learn_on (Some n) fresh (Some r) s = record { fresh = fresh; room = Some r }
+learn_on None fresh (Some r) s = with_string fresh s (room_after r s)
 
 abbrev pub learn_string : List (List ℕ) → Learned → List ℕ → Learned
-learn_string known l s = cond l.over l (learn_on (position (known ++ l.fresh) s) l s)
+learn_string known l s = learn_on (position (known ++ l.fresh) s) l.fresh l.room s
 
 abbrev pub learn_value : List (List ℕ) → Learned → Value → Learned
 learn_value known l (integer z) = l
@@ -46,6 +50,10 @@ learn_row known l (v ∷ vs) = learn_row known (learn_value known l v) vs
 abbrev pub learn_rows : List (List ℕ) → Learned → List (List Value) → Learned
 learn_rows known l [] = l
 learn_rows known l (row ∷ rows) = learn_rows known (learn_row known l row) rows
+
+-- every string that has a number, those of the text too
+abbrev pub strings_of : Source → Fresh → List (List ℕ)
+strings_of source f = numbered source.known ++ (learned_of source.text.now f).fresh
 
 -- Cells: an integer, 0 or 1, or the number of a string.
 

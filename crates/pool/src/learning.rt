@@ -1,69 +1,34 @@
 // Numbers for strings, old and new.
-ghost use Rattle.std.specs.Prelude.{◌≡◌, ℕ, ◌+◌, ◌<◌, ◌≤◌, List, ◌++◌, map, length, take, IfSome};
+ghost use Rattle.std.specs.Prelude.{◌≡◌, ℕ, ◌+◌, ◌<◌, List, ◌++◌, map, IfSome, is_none};
 ghost use Rattle.fault.specs.Limits as limits;
 ghost use Rattle.listing.specs.Seen.{part, value_in};
 ghost use Rattle.pool.specs.Strings.{position, parts, numbered};
-ghost use Rattle.pool.specs.Learning.{learned_of, nothing_learned, learn_string, learn_value, learn_row, cell_of};
+ghost use Rattle.pool.specs.Learning.{learned_of, nothing_learned, learn_string, learn_value, learn_row, cell_of, strings_of, room_after};
 
 use crate::find::find_in;
-use crate::fresh::Fresh;
+use crate::fresh::{Fresh, Room};
 use crate::known::Known;
-use fault::limits::{COLUMNS, LITERALS, READ_BYTES, READ_STRINGS};
+use fault::limits::{COLUMNS, READ_BYTES, READ_STRINGS};
 use lines::shown::part;
 use listing::Cell;
 use words::Span;
 
-// The first spans, as many as the limit.
-fn first_of(spans: &[Span], limit: usize) -> &[Span]
-    ensures value { result.now ≡ take limit spans.now }
-    ensures short { length result.now ≤ limit }
-{
-    if spans.len() > limit {
-        return &spans[0..limit];
-    }
-    spans
+// A text, and the strings that have a number before it is read.
+#[derive(Clone, Copy)]
+pub struct Source<'a> {
+    pub text: &'a [u8],
+    pub known: Known<'a>,
 }
 
-impl<'a> Known<'a> {
-    // The strings of a script and the pool's entries in use. No more count than a script and a pool can have.
-    pub fn new(
-        script: &'a [u8],
-        literals: &'a [Span],
-        pool: &'a [u8],
-        entries: &'a [Span],
-    ) -> Known<'a>
-        ensures script { result.script.now ≡ script.now }
-        ensures literals { result.literals.now ≡ take limits.literals literals.now }
-        ensures pool { result.pool.now ≡ pool.now }
-        ensures entries { result.entries.now ≡ take limits.read_strings entries.now }
+impl Room {
+    // What a string leaves of the room, if it fits.
+    pub(crate) fn after(self, string: &[u8]) -> Option<Room>
+        ensures { result ≡ room_after self string.now }
     {
-        Known {
-            script,
-            literals: first_of(literals, LITERALS),
-            pool,
-            entries: first_of(entries, READ_STRINGS),
-        }
-    }
-}
-
-// The number of a string: among the known ones, then among the new ones of the text.
-fn number_among(known: Known<'_>, text: &[u8], fresh: &[Span], wanted: &[u8]) -> Option<usize>
-    requires { length fresh.now ≤ limits.read_strings }
-    ensures value { result ≡ position (numbered known.entry ++ parts text.now fresh.now) wanted.now }
-    ensures small { IfSome result (λ n. n < 1 + limits.literals + limits.read_strings + limits.read_strings) }
-{
-    if wanted.is_empty() {
-        return Some(0);
-    }
-    if let Some(i) = find_in(known.script, known.literals, wanted) {
-        return Some(1 + i);
-    }
-    if let Some(i) = find_in(known.pool, known.entries, wanted) {
-        return Some(1 + known.literals.len() + i);
-    }
-    match find_in(text, fresh, wanted) {
-        Some(i) => Some(1 + known.literals.len() + known.entries.len() + i),
-        None => None,
+        Some(Room {
+            strings: self.strings.checked_sub(1)?,
+            bytes: self.bytes.checked_sub(string.len())?,
+        })
     }
 }
 
@@ -72,106 +37,90 @@ impl Fresh {
     pub fn new(strings: usize, bytes: usize) -> Fresh
         ensures { (text : List ℕ) → learned_of text result ≡ nothing_learned strings bytes }
     {
-        let mut strings_left: usize = 0;
-        if strings < READ_STRINGS {
-            strings_left = READ_STRINGS - strings;
-        }
-        let mut bytes_left: usize = 0;
-        if bytes < READ_BYTES {
-            bytes_left = READ_BYTES - bytes;
-        }
         Fresh {
             spans: [Span { start: 0, len: 0 }; READ_STRINGS],
             count: 0,
-            strings_left,
-            bytes_left,
-            over: false,
+            room: Some(Room {
+                strings: READ_STRINGS.saturating_sub(strings),
+                bytes: READ_BYTES.saturating_sub(bytes),
+            }),
         }
     }
 
     // Whether there ever was too little room.
     pub fn is_over(&self) -> bool
-        ensures { result ≡ self.now.over }
+        ensures { result ≡ is_none self.now.room }
     {
-        self.over
+        self.room.is_none()
+    }
+
+    // The number of a string: among the known ones, then among the new ones of the text.
+    fn number(&self, source: Source<'_>, wanted: &[u8]) -> Option<usize>
+        ensures value { result ≡ position (strings_of source.entry self.now) wanted.now }
+        ensures small { IfSome result (λ n. n < 1 + limits.literals + limits.read_strings + limits.read_strings) }
+    {
+        let known = source.known;
+        if let Some(number) = known.number(wanted) {
+            return Some(number);
+        }
+        let i = find_in(source.text, &self.spans[..self.count], wanted)?;
+        Some(1 + known.literals.len() + known.entries.len() + i)
     }
 
     // A string of the text: nothing to learn if it has a number, else one new string while there is room.
-    fn learn(&mut self, known: Known<'_>, text: &[u8], span: Span)
-        ensures { learned_of text.now self.new ≡ learn_string (numbered known.entry) (learned_of text.now self.old) (part text.now span) }
+    fn learn(&mut self, source: Source<'_>, span: Span)
+        ensures { learned_of source.entry.text.now self.new ≡ learn_string (numbered source.entry.known) (learned_of source.entry.text.now self.old) (part source.entry.text.now span) }
     {
-        if self.over {
+        let Some(room) = self.room else {
+            return;
+        };
+        let wanted = part(span, source.text);
+        if self.number(source, wanted).is_some() {
             return;
         }
-        let wanted = part(span, text);
-        if let Some(_) = number_among(known, text, &self.spans[0..self.count], wanted) {
-            return;
+        self.room = room.after(wanted);
+        if self.room.is_some() {
+            self.spans[self.count] = span;
+            self.count += 1;
         }
-        if self.strings_left == 0 || wanted.len() > self.bytes_left {
-            self.over = true;
-            return;
-        }
-        self.spans[self.count] = span;
-        self.count += 1;
-        self.strings_left -= 1;
-        self.bytes_left -= wanted.len();
     }
 
     // A cell of the text: only strings are learned.
-    fn learn_cell(&mut self, known: Known<'_>, text: &[u8], cell: Cell)
-        ensures { learned_of text.now self.new ≡ learn_value (numbered known.entry) (learned_of text.now self.old) (value_in text.now cell) }
+    fn learn_cell(&mut self, source: Source<'_>, cell: Cell)
+        ensures { learned_of source.entry.text.now self.new ≡ learn_value (numbered source.entry.known) (learned_of source.entry.text.now self.old) (value_in source.entry.text.now cell) }
     {
         if let Cell::String(span) = cell {
-            self.learn(known, text, span);
+            self.learn(source, span);
         }
     }
-}
 
-// The cells of a row, one by one.
-pub fn learn_row(fresh: &mut Fresh, known: Known<'_>, text: &[u8], cells: &[Cell])
-    ensures { learned_of text.now fresh.new ≡ learn_row (numbered known.entry) (learned_of text.now fresh.old) (map (value_in text.now) cells.now) }
-{
-    for cell in cells {
-        fresh.learn_cell(known, text, *cell);
+    // The cells of a row, one by one.
+    pub fn learn_row(&mut self, source: Source<'_>, cells: &[Cell])
+        ensures { learned_of source.entry.text.now self.new ≡ learn_row (numbered source.entry.known) (learned_of source.entry.text.now self.old) (map (value_in source.entry.text.now) cells.now) }
+    {
+        for cell in cells {
+            self.learn_cell(source, *cell);
+        }
     }
-}
 
-// The cell of a value: an integer, 0 or 1, or the number of a string. Every string of a text that was learned has one.
-fn cell_of(fresh: &Fresh, known: Known<'_>, text: &[u8], cell: Cell) -> i64
-    ensures { result ≡ cell_of (numbered known.entry ++ (learned_of text.now fresh.now).fresh) (value_in text.now cell) }
-{
-    match cell {
-        Cell::Integer(number) => number,
-        Cell::Boolean(truth) => {
-            if truth {
-                return 1;
+    // The cell of a value: an integer, 0 or 1, or the number of a string. Every string of a text that was learned has one.
+    fn cell_of(&self, source: Source<'_>, cell: Cell) -> i64
+        ensures { result ≡ cell_of (strings_of source.entry self.now) (value_in source.entry.text.now cell) }
+    {
+        match cell {
+            Cell::Integer(number) => number,
+            Cell::Boolean(truth) => i64::from(truth),
+            Cell::String(span) => {
+                let number = self.number(source, part(span, source.text));
+                number.unwrap_or(0) as i64
             }
-            0
         }
-        Cell::String(span) => match number_among(
-            known,
-            text,
-            &fresh.spans[0..fresh.count],
-            part(span, text),
-        ) {
-            Some(number) => number as i64,
-            None => 0,
-        },
     }
-}
 
-// The cells of a row, all of them; the first ones are its values.
-pub fn row_of(
-    fresh: &Fresh,
-    known: Known<'_>,
-    text: &[u8],
-    cells: &[Cell; COLUMNS],
-) -> [i64; COLUMNS]
-    ensures { result ≡ map (λ c. cell_of (numbered known.entry ++ (learned_of text.now fresh.now).fresh) (value_in text.now c)) cells.now }
-{
-    let mut row = [0; COLUMNS];
-    for i in 0..COLUMNS {
-        row[i] = cell_of(fresh, known, text, cells[i]);
+    // The cells of a row, all of them; the first ones are its values.
+    pub fn row_of(&self, source: Source<'_>, cells: &[Cell; COLUMNS]) -> [i64; COLUMNS]
+        ensures { result ≡ map (λ c. cell_of (strings_of source.entry self.now) (value_in source.entry.text.now c)) cells.now }
+    {
+        cells.map(|cell| self.cell_of(source, cell))
     }
-    row
 }

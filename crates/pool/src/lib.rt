@@ -6,7 +6,9 @@ pub mod find;
 pub mod fresh;
 pub mod known;
 pub mod learning;
+mod numbers;
 
 pub use find::find_in;
-pub use fresh::Fresh;
+pub use fresh::{Fresh, Room};
 pub use known::Known;
+pub use learning::Source;

@@ -1,28 +1,19 @@
-use Rattle.std.proofs.Common.{◌+◌, Some, sym, refl, ap, ◌∙◌, arith}
+-- The first part that is the wanted string ends the search.
+use Rattle.std.proofs.Common.{◌≡◌, true, false, refl, arith, rules}
 use Rattle.std.specs.Str.{bytes_eq}
-use Rattle.pool.proofs.Positions.{ahead_none, found, not_here, nowhere}
+use Rattle.std.specs.List.{position_or_len, prefix_len}
+use Rattle.std.proofs.lemmas.Iterator.{YieldsList-from_slice, IsFirst-from_position, index_from_first}
+use Rattle.listing.specs.Seen.{part}
+use Rattle.words.specs.declared.spans.Span.{Span}
+use Rattle.pool.proofs.Positions.{place_is}
 use Rattle.pool.proofs.find.find_in.Goals as goal
+use borrow.Author.Tests.{tests}
 
-pub loop-span-init : goal.loop-span-init
-loop-span-init c = (refl, ahead_none _)
-
-pub loop-span-preserved : goal.loop-span-preserved
-loop-span-preserved c =
-    let told = ap (λ z. bytes_eq z c.args.wanted.now) c.part.ensures.value in (
-      ap (λ n. n + 1) c.loop-span.invariant.0,
-      not_here c.args.bytes.now c.args.spans.now c.args.wanted.now c.loop-span.span-index _ c.loop-span-test.true c.loop-span.invariant.1 (sym told ∙ (sym c.same.ensures ∙ c.if-same.false)),
-    )
-
-pub returns-then-same : goal.returns-then-same
-returns-then-same c =
-    let told = ap (λ z. bytes_eq z c.args.wanted.now) c.part.ensures.value in
-    record {
-      value = ap Some c.loop-span.invariant.0 ∙ found c.args.bytes.now c.args.spans.now c.args.wanted.now c.loop-span.span-index _ c.loop-span-test.true c.loop-span.invariant.1 (sym told ∙ (sym c.same.ensures ∙ c.if-same.true));
-      within = omega (arith, c.loop-span.invariant.0, c.loop-span-test.true);
-    }
-
-pub returns : goal.returns
-returns c = record {
-  value = nowhere c.args.bytes.now c.args.spans.now c.args.wanted.now c.loop-span.span-index c.loop-span-test.false c.loop-span.invariant.1;
-  within = tt;
-}
+pub returns-clause-value : goal.returns-clause-value
+returns-clause-value c =
+    let p = λ (s : Span). bytes_eq (part c.args.bytes.now s) c.args.wanted.now in
+    let spans = c.args.spans.now in
+    let first = index_from_first (position_or_len p) (λ s. p s ≡ true) (λ s. p s ≡ false) refl (λ s ss h. rw (h, prefix_len) refl) (λ s ss h. rw (h, prefix_len) (omega arith)) spans c.position.result
+    (IsFirst-from_position _ _ _ (λ s. p s ≡ true) (λ s. p s ≡ false) c.position.ensures.ran (YieldsList-from_slice spans c.iter.ensures.rest)
+    (λ x q k. search (rules, tests)) (λ x q k. search (rules, tests))) in
+    place_is c.args.bytes.now c.args.wanted.now c.position.result spans (search rules) first
