@@ -1,10 +1,9 @@
-use Rattle.std.proofs.Common.{◌≡◌, ℕ, sym, refl, ap, ◌∙◌, subst, arith, rules}
-use Rattle.words.specs.declared.tokens.Sign.TheVariants.{LeftBracket}
+use Rattle.std.proofs.Common.{◌≡◌, ℕ, sym, refl, ap, ◌∙◌, subst, arith}
 use Rattle.phrases.specs.declared.sorts.Wanted.TheVariants as wanted
 use Rattle.phrases.specs.Sorts.{wanted_of}
 use Rattle.std.proofs.lemmas.Result.{err_from_is_err_and}
 use Rattle.words.specs.Lexing.{end_of}
-use Rattle.words.specs.Tokens.{Terminal.sign, Token.◌at◌}
+use Rattle.words.specs.Tokens.{Token.◌at◌}
 use Rattle.words.specs.Views.{spoken}
 use Rattle.grammar.specs.Parts.{apply, nothing, combine, join_parts, argument_of, origin}
 use Rattle.grammar.specs.Promise.{any_token}
@@ -14,7 +13,7 @@ use Rattle.tree.proofs.Grown.{beyond_then}
 use Rattle.phrases.specs.States.{ahead_at, behind, tokens_ahead, refused_by, Answers}
 use Rattle.phrases.proofs.LeafNodes.{type_read, name_read}
 use Rattle.phrases.proofs.Puts.{put_kept, done_put, answered, answer, answers_here, counted_tokens, refusal, to_refusal, answers_later}
-use Rattle.phrases.proofs.Steps.{answers_err, expected_ok, expected_broken, stepped_ok, stepped_broken, opened_ok, opened_err, opened_is, refused_at_lem, read_at, refuses, code_pays}
+use Rattle.phrases.proofs.Steps.{answers_err, expected_ok, expected_broken, stepped_ok, stepped_broken, opened_ok, opened_err, opened_is, refused_at_lem, read_at, refuses}
 use Rattle.expressions.specs.declared.sorts.Bracketed.TheVariants as bracketed
 use Rattle.expressions.specs.declared.sorts.Turn.TheVariants as turn
 use Rattle.expressions.specs.Starts.{level_behind, unary_node}
@@ -96,21 +95,11 @@ inside-returns-in-Update-clause-answer t c =
     λ text xs g. subst (λ w. Answers (Inside w) text (inside_reader c.args.depth w (tokens_ahead a)) a.count a c.assigned.new.parser xs c.assigned.new.parser.nodes.now c.assigned.result)
     (argument_of_lem c.args.operator bracketed.Update c.in-Update.ensures) (inside_update text c.args.depth (tokens_ahead a) a.count a c.assigned.new.parser xs c.assigned.new.parser.nodes.now c.assigned.result (c.assigned.ensures.answer text _ g))
 
-pub inside-returns-in-Extend-clause-answer : goal.inside-returns-in-Extend-clause-answer
-inside-returns-in-Extend-clause-answer t c =
-    let a = c.args.parser.now in
-    λ text xs g. subst (λ w. Answers (Inside w) text (inside_reader c.args.depth w (tokens_ahead a)) a.count a c.extended.new.parser xs c.extended.new.parser.nodes.now c.extended.result)
-    (argument_of_lem c.args.operator bracketed.Extend c.in-Extend.ensures) (c.extended.ensures.answer text _ g)
-
 pub bracket-returns-then-not-sees-clause-answer : goal.bracket-returns-then-not-sees-clause-answer
 bracket-returns-then-not-sees-clause-answer t c =
     let a = c.args.parser.now in
     λ text xs g. to_refusal _ text _ _ a a xs _ _ _ c.refuse.ensures
     (ap (refused_by (end_of text)) (bracket_else c.args.depth (spoken a.ahead.token) (ahead_at a) (behind a) (sym c.sees.ensures ∙ c.if-not-sees.true)) ∙ refuses text _ a g)
-
-pub bracket-enclosed-requires : goal.bracket-enclosed-requires
-bracket-enclosed-requires t c =
-    let live = code_pays (sign LeftBracket) (spoken c.args.parser.now.ahead.token) (sym c.sees.ensures ∙ c.if-not-sees.false) in search rules
 
 pub bracket-returns-clause-answer : goal.bracket-returns-clause-answer
 bracket-returns-clause-answer t c =
@@ -216,14 +205,6 @@ operated-returns-in_err-right-clause-answer t c =
     answers_err _ text _ _ _ _ _ _ _ _ _ y.1 y.2
     (take_first (end_of text) c.args.depth c.args.level c.args.operator u (spoken a.ahead.token) (ahead_at a) (behind a) _ c.requires.takes
     (refused_at_lem (end_of text) (operand_reader c.args.depth c.args.level) _ _ _ k.1 (refusal _ text _ _ c.advance.new.self c.operand.new.parser xs c.operand.new.parser.nodes.now _ (c.in_err-right.ensures.answer text _ k.0))))
-
-pub operated-put-root-requires : goal.operated-put-root-requires
-operated-put-root-requires t c =
-    let s = c.in_ok-advance.ensures in
-    let i = c.in_ok-right.ensures in
-    let r = c.args.parser.now.room in
-    let live = turn_pays c.args.level (spoken c.args.parser.now.ahead.token) (turn.Take c.args.operator) c.requires.takes (λ w. absurd (let y : ◌≡◌ {A = ℕ} 0 1 = cc in omega (arith, y))) in
-    omega (arith, r, s.count, s.paid, live, i.numbers.thrifty)
 
 pub operated-returns-clause-answer : goal.operated-returns-clause-answer
 operated-returns-clause-answer t c =
