@@ -12,11 +12,8 @@ use Rattle.directory.proofs.Keeping.{Held}
 use Rattle.directory.proofs.Growing.{entry_good, last_extent, last_is, last_width, left_cells, found, decode_add, held_add}
 
 -- e is the last entry, and the row has all its columns
-module _ {c : ℕ} {es : List Entry} {cs : List ℤ} (h : Held c es cs) (e : Entry) (row : Row) (n : ℕ)
-    (n_is : n ≡ length es) (some : 0 < length es) (e_is : e ≡ get_or es (n - 1) e) (long : length row ≡ columns) where
-  pub last_entry : e ≡ get_or es (length es - 1) e
-  last_entry = e_is ∙ ap (λ m. get_or es (m - 1) e) n_is
-
+module _ {c : ℕ} {es : List Entry} {cs : List ℤ} (h : Held c es cs) (e : Entry) (row : Row)
+    (some : 0 < length es) (last_entry : e ≡ get_or es (length es - 1) e) (long : length row ≡ columns) where
   pub add_good : (1 ≤ e.width) × (e.width ≤ columns)
   add_good = entry_good es cs (length es - 1) e h.sound (omega arith) last_entry
 
@@ -28,25 +25,13 @@ module _ {c : ℕ} {es : List Entry} {cs : List ℤ} (h : Held c es cs) (e : Ent
   pub add_count : e.count + 1 < 2 ^ 16
   add_count = omega (arith, add_size, add_good.0, le-mul_of_pos_right {m = e.width} e.count add_good.0, h.within, h.small)
 
-  -- the part of the row that counts, as a part of a slice
-  pub part_long : length (take (e.width - 0) row) ≡ e.width
-  part_long = length-take-le (e.width - 0) row (omega (arith, add_good.1)) ∙ whole
-    where
-      whole : e.width - 0 ≡ e.width
-      whole = omega arith
-
-  pub part_is : take (e.width - 0) row ≡ take e.width row
-  part_is = ap (λ m. take m row) whole
-    where
-      whole : e.width - 0 ≡ e.width
-      whole = omega arith
-
+  -- the part of the row that counts
   pub row_wide : length (take e.width row) ≡ e.width
   row_wide = length-take-le e.width row (omega (arith, add_good.1))
 
   -- r is what a search over the last table's cells found
   module _ (slice : List ℤ) (from : ℕ) (r : Bool) (slice_is : slice ≡ cs) (from_is : from ≡ extent (take (length es - 1) es))
-      (r_is : r ≡ has (chunk e.count (length (take (e.width - 0) row)) (drop from slice)) (take (e.width - 0) row)) where
+      (r_is : r ≡ has (chunk e.count (length (take e.width row)) (drop from slice)) (take e.width row)) where
     add_found : (has (chunk e.count e.width (drop (length cs - extent_of e) cs)) (take e.width row) ≡ r) × (repeats (laid c es cs) row ≡ r)
     add_found = found es e some last_entry cs h.full c row slice from r (omega (arith, add_good.1)) slice_is from_is r_is
 
@@ -61,10 +46,7 @@ module _ {c : ℕ} {es : List Entry} {cs : List ℤ} (h : Held c es cs) (e : Ent
 
     -- the row is new, and there is room: fs and ds are the entries and the run with the row
     module _ (is : r ≡ false) (fit : e.width ≤ c - length cs) (f : ℕ) (fs : List Entry) (ds : List ℤ)
-        (fs_is : fs ≡ set es (n - 1) (record { first = f; width = e.width; count = e.count + 1 })) (ds_is : ds ≡ cs ++ take e.width row) where
-      entries_are : fs ≡ set es (length es - 1) (record { first = f; width = e.width; count = e.count + 1 })
-      entries_are = fs_is ∙ ap (λ m. set es (m - 1) (record { first = f; width = e.width; count = e.count + 1 })) n_is
-
+        (entries_are : fs ≡ set es (length es - 1) (record { first = f; width = e.width; count = e.count + 1 })) (ds_is : ds ≡ cs ++ take e.width row) where
       pub add_held : Held c fs ds
       add_held = held_add e f (take e.width row) fs ds h some last_entry row_wide (add_found.0 ∙ is) (omega (arith, h.within)) entries_are ds_is
 

@@ -55,11 +55,10 @@ module _ (es : List Entry) (e : Entry) (some : 0 < length es) (is : e ≡ get_or
     left_cells c = ap (λ n. c - n) (used_decode es cs ∙ full)
 
     -- what the search over the last table's cells found, with its arguments as the code has them
-    pub found : (c : ℕ) (row : Row) (ds : List ℤ) (from : ℕ) (r : Bool) → e.width ≤ length row → ds ≡ cs → from ≡ extent (take (length es - 1) es) → r ≡ has (chunk e.count (length (take (e.width - 0) row)) (drop from ds)) (take (e.width - 0) row) → (has (chunk e.count e.width (drop (length cs - extent_of e) cs)) (take e.width row) ≡ r) × (repeats (laid c es cs) row ≡ r)
+    pub found : (c : ℕ) (row : Row) (ds : List ℤ) (from : ℕ) (r : Bool) → e.width ≤ length row → ds ≡ cs → from ≡ extent (take (length es - 1) es) → r ≡ has (chunk e.count (length (take e.width row)) (drop from ds)) (take e.width row) → (has (chunk e.count e.width (drop (length cs - extent_of e) cs)) (take e.width row) ≡ r) × (repeats (laid c es cs) row ≡ r)
     found c row ds from r w is-ds is-from h =
-        let w0 : e.width - 0 ≡ e.width = omega arith in
         let here : has (chunk e.count e.width (drop (length cs - extent_of e) cs)) (take e.width row) ≡ r =
-        sym (h ∙ ap (λ m. has (chunk e.count (length (take m row)) (drop from ds)) (take m row)) w0 ∙ ap (λ m. has (chunk e.count m (drop from ds)) (take e.width row)) (length-take-le e.width row w) ∙ ap₂ (λ m x. has (chunk e.count e.width (drop m x)) (take e.width row)) (is-from ∙ sym last_from) is-ds) in
+        sym (h ∙ ap (λ m. has (chunk e.count m (drop from ds)) (take e.width row)) (length-take-le e.width row w) ∙ ap₂ (λ m x. has (chunk e.count e.width (drop m x)) (take e.width row)) (is-from ∙ sym last_from) is-ds) in
         (here, sym (ap (λ t. has t.rows (take t.width row)) (last_is c)) ∙ here)
 
     module _ (row : Row) (wide_row : length row ≡ e.width) where

@@ -1,11 +1,16 @@
 -- What always holds of a directory and its run of cells, and that opening and dropping keep it.
-use Rattle.std.proofs.Common.{◌≡◌, ℕ, ◌+◌, ◌-◌, ◌<◌, ◌≤◌, true, List, [], ◌∷◌, ◌++◌, length, take, ℤ, sym, refl, ap, ◌∙◌, zero-mul, arith}
+use Rattle.std.proofs.Common.{◌≡◌, ℕ, ◌+◌, ◌-◌, ◌<◌, ◌≤◌, ◌⊎◌, true, List, [], ◌∷◌, ◌++◌, length, take, ℤ, Result, Ok, Err, sym, refl, ap, ◌∙◌, subst, ⊎_elim, zero-mul, arith}
 use Rattle.std.proofs.lemmas.List.{length-append, length-take-le, take_at}
 use Rattle.std.proofs.lemmas.Bool.{and_from}
+use Rattle.fault.specs.declared.rules.Fault.{Fault}
+use Rattle.fault.specs.declared.rules.Rule.TheVariants.{TooManyTables, WidthOutside}
 use Rattle.fault.specs.Limits.{columns, tables, cells}
+use Rattle.store.specs.Meaning.{refused_by, open_reply, open_after}
+use Rattle.store.proofs.Cases.{open_many, open_outside, open_accepted}
 use Rattle.store.specs.Sound.{sound_tables}
 use Rattle.store.proofs.Soundness.{sound_append, sound_take, sound_empty}
-use Rattle.directory.specs.Run.{extent_of, extent, decode}
+use Rattle.directory.specs.Run.{extent_of, extent, decode, laid}
+use Rattle.directory.specs.Tables.{Opened}
 use Rattle.directory.specs.declared.entry.Entry.{Entry}
 use Rattle.directory.proofs.Decoding.{decode_append, decode_cut, extent_append, length_decode, take_decode}
 
@@ -38,6 +43,27 @@ held_open {c} {es} {cs} f w fs h l lo hi is =
       small = h.small;
       few = omega (arith, ap length is, length-append es (record { first = f; width = w; count = 0 } ∷ []));
     }
+
+-- the same, from what opening a table in the directory comes to
+pub held_opened : {c : ℕ} {es : List Entry} {cs : List ℤ} (f w : ℕ) (r : Result (Unit {0}) Fault) (fs : List Entry) → Held c es cs → Opened es w (record { first = f; width = w; count = 0 }) r fs → Held c fs cs
+held_opened f w (Ok u) fs h o = held_open f w fs h o.0 o.1.0 o.1.1.0 o.1.1.1
+held_opened {c} {es} {cs} f w (Err x) fs h o = subst (λ es. Held c es cs) (sym o.0) h
+
+pub open_done : (c : ℕ) (es : List Entry) (cs : List ℤ) (f w : ℕ) (r : Result (Unit {0}) Fault) (fs : List Entry) → Opened es w (record { first = f; width = w; count = 0 }) r fs → (r ≡ open_reply (laid c es cs) w) × (laid c fs cs ≡ open_after (laid c es cs) w)
+open_done c es cs f w (Ok u) fs o =
+    let r = open_accepted (laid c es cs) w (omega (arith, o.0, length_decode es cs)) o.1.0 o.1.1.0 in
+    (r.0, ap (λ ts. record { capacity = c; tables = ts }) (ap (λ x. decode x cs) o.1.1.1 ∙ decode_open es cs f w) ∙ r.1)
+open_done c es cs f w (Err x) fs o = ⊎_elim many outside o.1
+  where
+    many : (tables ≤ length es) × (x ≡ refused_by TooManyTables) → (Err x ≡ open_reply (laid c es cs) w) × (laid c fs cs ≡ open_after (laid c es cs) w)
+    many p =
+        let r = open_many (laid c es cs) w (omega (arith, p.0, length_decode es cs)) in
+        (ap Err p.1 ∙ r.0, ap (λ x. laid c x cs) o.0 ∙ r.1)
+
+    outside : (length es < tables) × (((w < 1) ⊎ (columns < w)) × (x ≡ refused_by WidthOutside)) → (Err x ≡ open_reply (laid c es cs) w) × (laid c fs cs ≡ open_after (laid c es cs) w)
+    outside p =
+        let r = open_outside (laid c es cs) w (omega (arith, p.0, length_decode es cs)) p.1.0 in
+        (ap Err p.1.1 ∙ r.0, ap (λ x. laid c x cs) o.0 ∙ r.1)
 
 -- Drop.
 

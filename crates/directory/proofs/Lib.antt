@@ -5,3 +5,4 @@ pub mod Growing
 pub mod Settling
 pub mod Questions
 pub mod Adding
+pub mod Restarting

@@ -37,6 +37,7 @@ impl Domain {
 }
 
 // The domain that a letter of a heading or a format names: the inverse of `letter`, and nothing for any other letter.
+// A function and no `TryFrom`: the project's rules name this form, a function from a char with the letters as its cases.
 pub fn domain_of(letter: char) -> Option<Domain>
     ensures value { result ≡ domain_of letter }
     ensures inverse { LettersTell }

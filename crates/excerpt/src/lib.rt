@@ -5,12 +5,14 @@
 ghost use Rattle.std.specs.Prelude.{◌≡◌};
 ghost use Rattle.excerpt.specs.Excerpts.{LineStart, LineEnd, printed};
 
+use memchr::{memchr, memrchr};
+
 // Where the line of a byte begins: behind the last line feed before it.
 pub fn line_start(text: &[u8], byte: usize) -> usize
     ensures { LineStart text.now byte result }
 {
     let before = &text[..byte.min(text.len())];
-    match before.iter().rposition(|b| *b == b'\n') {
+    match memrchr(b'\n', before) {
         Some(feed) => feed + 1,
         None => 0,
     }
@@ -21,7 +23,7 @@ pub fn line_end(text: &[u8], byte: usize) -> usize
     ensures { LineEnd text.now byte result }
 {
     let start = byte.min(text.len());
-    match text[start..].iter().position(|b| *b == b'\n') {
+    match memchr(b'\n', &text[start..]) {
         Some(feed) => start + feed,
         None => text.len(),
     }

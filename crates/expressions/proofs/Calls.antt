@@ -42,18 +42,18 @@ pub answers_same : (P : Holding) (text : Bytes) (o q : Outcome) (from : ℕ) (a 
 answers_same P text o q from a b xs ys r e h = subst (λ x. Answers P text x from a b xs ys r) (sym e) h
 
 -- a sign was passed behind the part
-pub done_passed : (P : Holding) (text : Bytes) (o q : Outcome) (from : ℕ) (a b d e : Parser) (xs ys : List Node) (i : ℕ) (v : Done P text q b.count b d xs ys i) → b.count ≡ from → e.count ≡ d.count → Grounded text e → o ≡ read v.part (tokens_ahead e) →
-    Answers P text o from a e xs ys (Ok i)
+pub done_passed : (P : Holding) (text : Bytes) (o q : Outcome) (from : ℕ) (a b d e : Parser) (xs ys : List Node) (i : ℕ) (v : Done P text q b.count b d xs ys i) → b.count ≡ from → e.count ≡ d.count → Grounded text ys e → o ≡ read v.part (tokens_ahead e) →
+    Answers P text o from a e xs e.nodes.now (Ok i)
 unfolding Answers
 done_passed P text o q from a b d e xs ys i v f g k z =
-    record {
+    subst (λ l. Answers P text o from a e xs l (Ok i)) (sym k.entries) (record {
       part = v.part;
       value = z;
       grounded = k;
       below = subst (λ n. Below n xs ys) f v.below;
       beyond = subst (λ n. Beyond n xs ys) (sym g) v.beyond;
       holds = subst (λ n. P text ys n e.count i v.part) f (subst (λ n. P text ys b.count n i v.part) (sym g) v.holds);
-    }
+    })
 
 -- behind a token that opened a depth
 pub opened_refused : (end : Place) (n m : ℕ) (g : ℕ → Place → Reader) (a b : Parser) (f : Fault) → n ≡ suc m → 0 < pays_ahead (spoken a.ahead.token) → tokens_ahead b ≡ behind a → refused_by end (g m (ahead_at a) (tokens_ahead b)) ≡ some f →

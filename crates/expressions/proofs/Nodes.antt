@@ -5,7 +5,6 @@ use Rattle.fault.specs.declared.rules.Fault.{Fault}
 use Rattle.words.specs.declared.tokens.Sign.TheVariants.{LeftParenthesis}
 use Rattle.words.specs.Tokens.{Bytes, Place, Terminal, Token, Terminal.sign}
 use Rattle.grammar.specs.Parts.{name_part, Part}
-use Rattle.grammar.specs.Parts.{Unary.unary_minus, Unary.unary_not}
 use Rattle.grammar.specs.Parts.{Argument.extend_argument}
 use Rattle.grammar.specs.Parts.{Level.name_level, Level.type_level, Level.tuple_level}
 use Rattle.grammar.specs.Parts.{argument_of, apply, nothing, name_and_expression, type_name_and_expression, table_constant, combine, join_parts, code_in, left_parenthesis, right_brace}
@@ -15,9 +14,11 @@ use Rattle.phrases.specs.States.{before, broken_in, refused_by, Halts, code_ahea
 use Rattle.phrases.proofs.Steps.{refused_ahead, refused_first}
 use Rattle.expressions.specs.declared.sorts.Operator.{Operator}
 use Rattle.expressions.specs.declared.sorts.Operator.TheVariants as operator
+use Rattle.expressions.specs.declared.sorts.Negation.{Negation}
+use Rattle.expressions.specs.declared.sorts.Negation.TheVariants as negation
 use Rattle.expressions.specs.declared.sorts.Unary.{Unary}
 use Rattle.expressions.specs.declared.sorts.Unary.TheVariants as unary
-use Rattle.expressions.specs.Shapes.{unary_of, table_reader}
+use Rattle.expressions.specs.Shapes.{negation_of, unary_of, table_reader}
 use Rattle.grammar.specs.Tree.{Tuple, Name.named, AtomicType.typed}
 use Rattle.grammar.specs.Readers.{begins_with, read_tuple}
 use Rattle.phrases.specs.Places.{pays_ahead}
@@ -32,7 +33,7 @@ use Rattle.tree.proofs.Stable.{expression_order, expression_stable, name_stable,
 use Rattle.tree.proofs.Grown.{below_agree}
 use Rattle.phrases.specs.Held.{Held}
 use Rattle.phrases.proofs.ListSteps.{held_below, one_name, one_type}
-use Rattle.expressions.specs.Starts.{operator_node, unary_node, table_node, instance_of}
+use Rattle.expressions.specs.Starts.{operator_node, unary_node, negation_node, table_node, instance_of, listed_of}
 use Rattle.expressions.specs.Shapes.{Expressed, Assigned, Inside}
 use Rattle.expressions.proofs.Readings.{sort_of, expect_halts, found_halts}
 
@@ -45,19 +46,13 @@ pub expressed_some : (text : Bytes) (xs : List Node) (from upto i : ℕ) (t : Pa
 unfolding Expressed
 expressed_some text xs from upto i t (e, h) = let o = expression_order text xs from i t.expression h in omega (arith, e, o)
 
-negative_held : (text : Bytes) (ys zs : List Node) (from upto i : ℕ) (t : Part) (p : Place) → Expressed text zs from upto i t → Says zs upto (what.Negative i) p → Expressed text zs from (suc upto) upto (apply unary_minus p nothing t)
+negation_made : (g : Negation) (text : Bytes) (zs : List Node) (from upto i : ℕ) (t : Part) (p : Place) → Expressed text zs from upto i t → Says zs upto (negation_node g i) p → Expressed text zs from (suc upto) upto (apply (negation_of g) p nothing t)
 unfolding Expressed
-negative_held text ys zs from upto i t p (e, h) says = (refl, (i, h, e, says))
+negation_made negation.Minus text zs from upto i t p (e, h) says = (refl, (i, h, e, says))
+negation_made negation.Not text zs from upto i t p (e, h) says = (refl, (i, h, e, says))
 
-pub minus_held : (text : Bytes) (ys zs : List Node) (from upto i : ℕ) (t : Part) (p : Place) → Expressed text ys from upto i t → Below upto ys zs → Says zs upto (what.Negative i) p → Expressed text zs from (suc upto) upto (apply unary_minus p nothing t)
-minus_held text ys zs from upto i t p h b says = negative_held text ys zs from upto i t p (expressed_below text ys zs from upto i t b h) says
-
-negated_held : (text : Bytes) (zs : List Node) (from upto i : ℕ) (t : Part) (p : Place) → Expressed text zs from upto i t → Says zs upto (what.Negated i) p → Expressed text zs from (suc upto) upto (apply unary_not p nothing t)
-unfolding Expressed
-negated_held text zs from upto i t p (e, h) says = (refl, (i, h, e, says))
-
-pub not_held : (text : Bytes) (ys zs : List Node) (from upto i : ℕ) (t : Part) (p : Place) → Expressed text ys from upto i t → Below upto ys zs → Says zs upto (what.Negated i) p → Expressed text zs from (suc upto) upto (apply unary_not p nothing t)
-not_held text ys zs from upto i t p h b says = negated_held text zs from upto i t p (expressed_below text ys zs from upto i t b h) says
+pub negation_held : (g : Negation) (text : Bytes) (ys zs : List Node) (from upto i : ℕ) (t : Part) (p : Place) → Expressed text ys from upto i t → Below upto ys zs → Says zs upto (negation_node g i) p → Expressed text zs from (suc upto) upto (apply (negation_of g) p nothing t)
+negation_held g text ys zs from upto i t p h b says = negation_made g text zs from upto i t p (expressed_below text ys zs from upto i t b h) says
 
 -- an operator between two operands
 between : (o : Operator) (text : Bytes) (zs : List Node) (from m upto i j : ℕ) (t u : Part) (p : Place) → Expressed text zs from m i t → Expressed text zs m upto j u → Says zs upto (operator_node o i j) p → Expressed text zs from (suc upto) upto (combine (sort_of o) p t u)
@@ -207,7 +202,7 @@ types_made : (text : Bytes) (zs : List Node) (from upto i : ℕ) (t : Part) (p :
 unfolding Held Expressed
 types_made text zs from upto i t p ((l, e, h), z) says = (refl, subst (λ ts. HoldsExpression text zs from upto (table_expression ts t.types p)) (sym z) (i, l, h, e, says))
 
-pub table_held : (b : Bool) (text : Bytes) (ys zs : List Node) (from upto i : ℕ) (t : Part) (p : Place) → Held (list_level (instance_of b)) text ys from upto i t → Below upto ys zs → Says zs upto (table_node b i) p → Expressed text zs from (suc upto) upto (table_constant p t)
+pub table_held : (b : Bool) (text : Bytes) (ys zs : List Node) (from upto i : ℕ) (t : Part) (p : Place) → Held (list_level (listed_of (instance_of b))) text ys from upto i t → Below upto ys zs → Says zs upto (table_node (instance_of b) i) p → Expressed text zs from (suc upto) upto (table_constant p t)
 table_held true text ys zs from upto i t p h b says = tuples_made text zs from upto i t p (held_below tuple_level text ys zs from upto i t b h) says
 table_held false text ys zs from upto i t p h b says = types_made text zs from upto i t p (held_below type_level text ys zs from upto i t b h) says
 
@@ -220,13 +215,13 @@ table_halts end n (Some k) p s f l h = refused_ahead end (λ s. and_then (read_i
     instance_halts : (end : Place) (n : ℕ) (g : Part → List Token → Outcome) → Halts end (λ s. and_then (read_instance (brackets_at any_token n) s) g)
     instance_halts end n g c p q = refl
 
-instance_is : (n : ℕ) (s : List Token) (b : Bool) → b ≡ begins_with left_parenthesis s → read_instance (brackets_at any_token n) s ≡ read_level (item_reader n (instance_of b)) (brackets_at any_token n) (list_level (instance_of b)) s
+instance_is : (n : ℕ) (s : List Token) (b : Bool) → b ≡ begins_with left_parenthesis s → read_instance (brackets_at any_token n) s ≡ read_level (item_reader n (listed_of (instance_of b))) (brackets_at any_token n) (list_level (listed_of (instance_of b))) s
 unfolding read_instance
 instance_is n s true e = rw (← e)
 instance_is n s false e = rw (← e)
 
 pub table_first : (end : Place) (n : ℕ) (k : Option Terminal) (p : Place) (s : List Token) (b : Bool) (f : Fault) → 0 < pays_ahead k → b ≡ begins_with left_parenthesis s →
-    refused_by end (read_level (item_reader n (instance_of b)) (brackets_at any_token n) (list_level (instance_of b)) s) ≡ some f → refused_by end (table_reader n (before k p s)) ≡ some f
+    refused_by end (read_level (item_reader n (listed_of (instance_of b))) (brackets_at any_token n) (list_level (listed_of (instance_of b))) s) ≡ some f → refused_by end (table_reader n (before k p s)) ≡ some f
 unfolding table_reader
 table_first end n None p s b f l e h = absurd (let z : ⊥ = omega arith in z)
 table_first end n (Some k) p s b f l e h =
@@ -234,13 +229,13 @@ table_first end n (Some k) p s b f l e h =
     (ap (refused_by end) (instance_is n s b e) ∙ h)
 
 pub table_second : (end : Place) (n : ℕ) (k : Option Terminal) (p : Place) (s : List Token) (b : Bool) (t : Part) (r : List Token) (f : Fault) → 0 < pays_ahead k → b ≡ begins_with left_parenthesis s →
-    read_level (item_reader n (instance_of b)) (brackets_at any_token n) (list_level (instance_of b)) s ≡ read t r → refused_by end (expect_token right_brace r) ≡ some f → refused_by end (table_reader n (before k p s)) ≡ some f
+    read_level (item_reader n (listed_of (instance_of b))) (brackets_at any_token n) (list_level (listed_of (instance_of b))) s ≡ read t r → refused_by end (expect_token right_brace r) ≡ some f → refused_by end (table_reader n (before k p s)) ≡ some f
 unfolding table_reader
 table_second end n None p s b t r f l e i h = absurd (let z : ⊥ = omega arith in z)
 table_second end n (Some k) p s b t r f l e i h = rw (instance_is n s b e ∙ i) (refused_first end (expect_token right_brace r) (λ _ q. read (table_constant p t) q) f (λ u. found_halts end (table_constant p t)) h)
 
 pub table_found : (n : ℕ) (k : Option Terminal) (p : Place) (s : List Token) (b : Bool) (t : Part) (r : List Token) (z : Part) (q : List Token) → 0 < pays_ahead k → b ≡ begins_with left_parenthesis s →
-    read_level (item_reader n (instance_of b)) (brackets_at any_token n) (list_level (instance_of b)) s ≡ read t r → expect_token right_brace r ≡ read z q → table_reader n (before k p s) ≡ read (table_constant p t) q
+    read_level (item_reader n (listed_of (instance_of b))) (brackets_at any_token n) (list_level (listed_of (instance_of b))) s ≡ read t r → expect_token right_brace r ≡ read z q → table_reader n (before k p s) ≡ read (table_constant p t) q
 unfolding table_reader
 table_found n None p s b t r z q l e i h = absurd (let y : ⊥ = omega arith in y)
 table_found n (Some k) p s b t r z q l e i h = rw (instance_is n s b e ∙ i, h)

@@ -4,7 +4,7 @@ use Rattle.words.specs.declared.tokens.Sign.{Sign}
 use Rattle.words.specs.Tokens.{Place, Token, Token.◌at◌, Terminal.sign}
 use Rattle.grammar.specs.Parts.{Level, Unary, Argument, Argument.no_argument, Argument.names_argument, Argument.condition_argument, Argument.update_argument, Argument.extend_argument}
 use Rattle.grammar.specs.Parts.{Leaf.name_leaf, Leaf.type_leaf, Level.name_level, Level.logic_level, Level.comparison_level, Level.compared_level, Level.sum_level, Level.product_level}
-use Rattle.grammar.specs.Parts.{Unary.unary_project, Unary.unary_rename, Unary.unary_select, Unary.unary_exists, Unary.unary_all, Unary.unary_update, Unary.unary_extend}
+use Rattle.grammar.specs.Parts.{Unary.unary_minus, Unary.unary_not, Unary.unary_project, Unary.unary_rename, Unary.unary_select, Unary.unary_exists, Unary.unary_all, Unary.unary_update, Unary.unary_extend}
 use Rattle.grammar.specs.Parts.{argument_of, apply, nothing, name_and_expression, type_name_and_expression, table_constant, first_name, first_type, left_bracket, right_bracket, right_brace, assign_token, place_of, origin}
 use Rattle.grammar.specs.Promise.{any_token}
 use Rattle.grammar.specs.Readers.{Cause.cannot_follow, Outcome.found, Outcome.refused_at, Reader, and_then, expect_token, read_leaf, read_level, read_instance, factors_at, brackets_at, expressions_at}
@@ -15,6 +15,8 @@ use Rattle.expressions.specs.declared.sorts.Bracketed.{Bracketed}
 use Rattle.expressions.specs.declared.sorts.Bracketed.TheVariants as bracketed
 use Rattle.expressions.specs.declared.sorts.Level.{Level as Rank}
 use Rattle.expressions.specs.declared.sorts.Level.TheVariants as rank
+use Rattle.expressions.specs.declared.sorts.Negation.{Negation}
+use Rattle.expressions.specs.declared.sorts.Negation.TheVariants as negation
 use Rattle.expressions.specs.declared.sorts.Unary.{Unary as Named}
 use Rattle.expressions.specs.declared.sorts.Unary.TheVariants as named
 
@@ -34,6 +36,10 @@ unary_of named.Exists = unary_exists
 unary_of named.All = unary_all
 unary_of named.Update = unary_update
 unary_of named.Extend = unary_extend
+
+abbrev pub negation_of : Negation → Unary
+negation_of negation.Minus = unary_minus
+negation_of negation.Not = unary_not
 
 abbrev pub argument_for : Bracketed → Argument
 argument_for bracketed.Names = names_argument

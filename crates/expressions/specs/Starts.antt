@@ -21,6 +21,10 @@ use Rattle.expressions.specs.declared.sorts.Unary.{Unary}
 use Rattle.expressions.specs.declared.sorts.Unary.TheVariants as unary
 use Rattle.expressions.specs.declared.sorts.Bracketed.{Bracketed}
 use Rattle.expressions.specs.declared.sorts.Bracketed.TheVariants as bracketed
+use Rattle.expressions.specs.declared.sorts.Negation.{Negation}
+use Rattle.expressions.specs.declared.sorts.Negation.TheVariants as negation
+use Rattle.expressions.specs.declared.sorts.Instance.{Instance}
+use Rattle.expressions.specs.declared.sorts.Instance.TheVariants as instance
 use Rattle.expressions.specs.declared.sorts.Start.{Start}
 use Rattle.expressions.specs.declared.sorts.Start.TheVariants as start
 
@@ -37,7 +41,7 @@ start_in (Some (word Do)) = start.Nothing
 start_in (Some (word Read)) = start.Nothing
 start_in (Some (word Write)) = start.Nothing
 start_in (Some (word Join)) = start.Nothing
-start_in (Some (word Not)) = start.Not
+start_in (Some (word Not)) = start.Negation negation.Not
 start_in (Some (word Project)) = start.Unary unary.Project
 start_in (Some (word Select)) = start.Unary unary.Select
 start_in (Some (word Exists)) = start.Unary unary.Exists
@@ -64,7 +68,7 @@ start_in (Some (string x)) = start.Constant
 start_in (Some (name x)) = start.Name
 start_in (Some (broken r)) = start.Nothing
 start_in (Some (sum Plus)) = start.Nothing
-start_in (Some (sum Minus)) = start.Minus
+start_in (Some (sum Minus)) = start.Negation negation.Minus
 
 abbrev pub logic_turn : Option Terminal → Turn
 logic_turn None = turn.Stop
@@ -263,14 +267,22 @@ unary_node unary.All first x a = what.Everywhere x a
 unary_node unary.Update first x a = what.Updated first x a
 unary_node unary.Extend first x a = what.Extended first (first + 1) x a
 
--- a table constant has tuples where it begins with a parenthesis, else types
-abbrev pub instance_of : Bool → Listed
-instance_of true = listed.Tuples
-instance_of false = listed.Types
+abbrev pub negation_node : Negation → ℕ → What
+negation_node negation.Minus a = what.Negative a
+negation_node negation.Not a = what.Negated a
 
-abbrev pub table_node : Bool → ℕ → What
-table_node true first = what.TableOfTuples first
-table_node false first = what.TableOfTypes first
+-- a table constant has tuples where it begins with a parenthesis, else types
+abbrev pub instance_of : Bool → Instance
+instance_of true = instance.Tuples
+instance_of false = instance.Types
+
+abbrev pub listed_of : Instance → Listed
+listed_of instance.Tuples = listed.Tuples
+listed_of instance.Types = listed.Types
+
+abbrev pub table_node : Instance → ℕ → What
+table_node instance.Tuples first = what.TableOfTuples first
+table_node instance.Types first = what.TableOfTypes first
 
 abbrev pub bracketed_of : Unary → Bracketed
 bracketed_of unary.Project = bracketed.Names

@@ -1,328 +1,256 @@
 // Expressions and factors contain each other: the functions below call each other in a cycle, and each call has less text left, or a tighter level.
-// One function for each production, named like it.
-ghost use Rattle.std.specs.Prelude.{◌≡◌, ℕ, ◌+◌, ◌<◌, ◌≤◌, length, OnOk};
-ghost use Rattle.fault.specs.Limits.{nodes as nodes_limit};
+// One function for each production, named like it: so the rules ask, also for levels that differ in their operators alone.
+ghost use Rattle.std.specs.Prelude.{◌≡◌, ◌<◌, OnOk};
 ghost use Rattle.words.specs.Views.{spoken};
-ghost use Rattle.grammar.specs.Parts.{argument_of, Unary.unary_minus, Unary.unary_not};
+ghost use Rattle.grammar.specs.Parts.{argument_of};
 ghost use Rattle.grammar.specs.Promise.{any_token};
 ghost use Rattle.grammar.specs.Readers.{rest, factors_at, brackets_at, expressions_at};
 ghost use Rattle.phrases.specs.Places.{pays_ahead};
-ghost use Rattle.phrases.specs.States.{worth, Numbers, NumbersOn, Follows, GoesOn, opened};
+ghost use Rattle.phrases.specs.States.{Numbers, NumbersOn, Follows, GoesOn, opened};
 ghost use Rattle.grammar.specs.Parts.{Argument.extend_argument};
 ghost use Rattle.expressions.specs.declared.sorts.Level.TheVariants as rank;
 ghost use Rattle.expressions.specs.declared.sorts.Turn.TheVariants as turn;
 ghost use Rattle.expressions.specs.Starts.{turn_in};
-ghost use Rattle.expressions.specs.Shapes.{closing_token, Expressed, Assigned, Inside, level_of, unary_of, operand_reader, level_reader, negation_behind, unary_behind, enclosed_behind, inside_reader, assigned_reader, table_reader};
+ghost use Rattle.expressions.specs.Shapes.{closing_token, Expressed, Assigned, Inside, level_of, negation_of, unary_of, operand_reader, level_reader, negation_behind, unary_behind, enclosed_behind, inside_reader, assigned_reader, table_reader};
 
-use crate::sorts::{Bracketed, Level, Operator, Start, Turn, Unary, begins, taken};
+use crate::sorts::{Bracketed, Level, Negation, Operator, Start, Turn, Unary, begins, taken};
 use crate::tables::table_const;
-use fault::Fault;
+use fault::{Fault, Rule};
 use phrases::Parser;
 use phrases::leaves::leaf;
 use phrases::lists::list;
 use phrases::sorts::{Leaf, Listed, Wanted};
-use tree::{Node, What};
+use tree::What;
 use words::Sign;
 
 // expr → bool-term { (and | or) bool-term }
 #[cycle(expression)]
-pub fn expr<'a>(parser: &mut Parser<'a>, nodes: &mut [Node], depth: u8) -> Result<u16, Fault>
-    requires room { parser.old.count + worth parser.old ≤ nodes_limit }
-    requires fits { nodes_limit ≤ length nodes.old }
+pub fn expr(parser: &mut Parser<'_>, depth: u8) -> Result<u16, Fault>
+    ensures lent { parser.new.nodes.ghost_name ≡ parser.old.nodes.ghost_name }
     ensures numbers { OnOk result (Numbers parser.old parser.new) }
-    ensures answer { Follows Expressed (expressions_at any_token depth) parser.old parser.new nodes.old nodes.new result }
+    ensures answer { Follows Expressed (expressions_at any_token depth) parser.old parser.new result }
 {
-    level(parser, nodes, depth, Level::Logic)
+    level(parser, depth, Level::Logic)
 }
 
 // bool-term → comp-term [ (== | != | > | >= | < | <=) comp-term ]
 #[cycle(expression)]
-fn bool_term<'a>(parser: &mut Parser<'a>, nodes: &mut [Node], depth: u8) -> Result<u16, Fault>
-    requires room { parser.old.count + worth parser.old ≤ nodes_limit }
-    requires fits { nodes_limit ≤ length nodes.old }
+fn bool_term(parser: &mut Parser<'_>, depth: u8) -> Result<u16, Fault>
+    ensures lent { parser.new.nodes.ghost_name ≡ parser.old.nodes.ghost_name }
     ensures numbers { OnOk result (Numbers parser.old parser.new) }
-    ensures answer { Follows Expressed (level_reader depth rank.Comparison) parser.old parser.new nodes.old nodes.new result }
+    ensures answer { Follows Expressed (level_reader depth rank.Comparison) parser.old parser.new result }
 {
-    level(parser, nodes, depth, Level::Comparison)
+    level(parser, depth, Level::Comparison)
 }
 
 // comp-term → low-term { (+ | -) low-term }
 #[cycle(expression)]
-fn comp_term<'a>(parser: &mut Parser<'a>, nodes: &mut [Node], depth: u8) -> Result<u16, Fault>
-    requires room { parser.old.count + worth parser.old ≤ nodes_limit }
-    requires fits { nodes_limit ≤ length nodes.old }
+fn comp_term(parser: &mut Parser<'_>, depth: u8) -> Result<u16, Fault>
+    ensures lent { parser.new.nodes.ghost_name ≡ parser.old.nodes.ghost_name }
     ensures numbers { OnOk result (Numbers parser.old parser.new) }
-    ensures answer { Follows Expressed (level_reader depth rank.Sum) parser.old parser.new nodes.old nodes.new result }
+    ensures answer { Follows Expressed (level_reader depth rank.Sum) parser.old parser.new result }
 {
-    level(parser, nodes, depth, Level::Sum)
+    level(parser, depth, Level::Sum)
 }
 
 // low-term → factor { (* | / | join-op) factor }
 #[cycle(expression)]
-fn low_term<'a>(parser: &mut Parser<'a>, nodes: &mut [Node], depth: u8) -> Result<u16, Fault>
-    requires room { parser.old.count + worth parser.old ≤ nodes_limit }
-    requires fits { nodes_limit ≤ length nodes.old }
+fn low_term(parser: &mut Parser<'_>, depth: u8) -> Result<u16, Fault>
+    ensures lent { parser.new.nodes.ghost_name ≡ parser.old.nodes.ghost_name }
     ensures numbers { OnOk result (Numbers parser.old parser.new) }
-    ensures answer { Follows Expressed (level_reader depth rank.Product) parser.old parser.new nodes.old nodes.new result }
+    ensures answer { Follows Expressed (level_reader depth rank.Product) parser.old parser.new result }
 {
-    level(parser, nodes, depth, Level::Product)
+    level(parser, depth, Level::Product)
 }
 
 // An operand, and the operators of the level behind it with theirs.
 #[cycle(expression)]
-fn level<'a>(
-    parser: &mut Parser<'a>,
-    nodes: &mut [Node],
-    depth: u8,
-    level: Level,
-) -> Result<u16, Fault>
-    requires room { parser.old.count + worth parser.old ≤ nodes_limit }
-    requires fits { nodes_limit ≤ length nodes.old }
+fn level(parser: &mut Parser<'_>, depth: u8, level: Level) -> Result<u16, Fault>
+    ensures lent { parser.new.nodes.ghost_name ≡ parser.old.nodes.ghost_name }
     ensures numbers { OnOk result (Numbers parser.old parser.new) }
-    ensures answer { Follows Expressed (level_reader depth level) parser.old parser.new nodes.old nodes.new result }
+    ensures answer { Follows Expressed (level_reader depth level) parser.old parser.new result }
 {
-    let first = operand(parser, nodes, depth, level)?;
-    more(parser, nodes, depth, level, first)
+    let first = operand(parser, depth, level)?;
+    more(parser, depth, level, first)
 }
 
 // What stands on either side of an operator of the level.
 #[cycle(expression)]
-fn operand<'a>(
-    parser: &mut Parser<'a>,
-    nodes: &mut [Node],
-    depth: u8,
-    level: Level,
-) -> Result<u16, Fault>
-    requires room { parser.old.count + worth parser.old ≤ nodes_limit }
-    requires fits { nodes_limit ≤ length nodes.old }
+fn operand(parser: &mut Parser<'_>, depth: u8, level: Level) -> Result<u16, Fault>
+    ensures lent { parser.new.nodes.ghost_name ≡ parser.old.nodes.ghost_name }
     ensures numbers { OnOk result (Numbers parser.old parser.new) }
-    ensures answer { Follows Expressed (operand_reader depth level) parser.old parser.new nodes.old nodes.new result }
+    ensures answer { Follows Expressed (operand_reader depth level) parser.old parser.new result }
 {
     match level {
-        Level::Logic => bool_term(parser, nodes, depth),
-        Level::Comparison | Level::Compared => comp_term(parser, nodes, depth),
-        Level::Sum => low_term(parser, nodes, depth),
-        Level::Product => factor(parser, nodes, depth),
+        Level::Logic => bool_term(parser, depth),
+        Level::Comparison | Level::Compared => comp_term(parser, depth),
+        Level::Sum => low_term(parser, depth),
+        Level::Product => factor(parser, depth),
     }
 }
 
 // The operators of the level that follow, joined to the left.
 #[cycle(expression)]
-fn more<'a>(
-    parser: &mut Parser<'a>,
-    nodes: &mut [Node],
-    depth: u8,
-    level: Level,
-    left: u16,
-) -> Result<u16, Fault>
-    requires room { parser.old.count + worth parser.old ≤ nodes_limit }
-    requires fits { nodes_limit ≤ length nodes.old }
+fn more(parser: &mut Parser<'_>, depth: u8, level: Level, left: u16) -> Result<u16, Fault>
+    ensures lent { parser.new.nodes.ghost_name ≡ parser.old.nodes.ghost_name }
     ensures numbers { OnOk result (NumbersOn parser.old parser.new) }
-    ensures answer { GoesOn Expressed (rest (operand_reader depth level) (brackets_at any_token depth) (level_of level)) left parser.old parser.new nodes.old nodes.new result }
+    ensures answer { GoesOn Expressed (rest (operand_reader depth level) (brackets_at any_token depth) (level_of level)) left parser.old parser.new result }
 {
     match taken(level, parser.ahead.token) {
         Turn::Stop => Ok(left),
-        Turn::Take(operator) => operated(parser, nodes, depth, level, left, operator),
-        Turn::Join => joined(parser, nodes, depth, level, left),
+        Turn::Take(operator) => operated(parser, depth, level, left, operator),
+        Turn::Join => joined(parser, depth, level, left),
     }
 }
 
 // The operator ahead and its right operand, then those that follow.
 #[cycle(expression)]
-fn operated<'a>(
-    parser: &mut Parser<'a>,
-    nodes: &mut [Node],
+fn operated(
+    parser: &mut Parser<'_>,
     depth: u8,
     level: Level,
     left: u16,
     operator: Operator,
 ) -> Result<u16, Fault>
     requires takes { turn.Take operator ≡ turn_in level (spoken parser.old.ahead.token) }
-    requires room { parser.old.count + worth parser.old ≤ nodes_limit }
-    requires fits { nodes_limit ≤ length nodes.old }
+    ensures lent { parser.new.nodes.ghost_name ≡ parser.old.nodes.ghost_name }
     ensures numbers { OnOk result (NumbersOn parser.old parser.new) }
-    ensures answer { GoesOn Expressed (rest (operand_reader depth level) (brackets_at any_token depth) (level_of level)) left parser.old parser.new nodes.old nodes.new result }
+    ensures answer { GoesOn Expressed (rest (operand_reader depth level) (brackets_at any_token depth) (level_of level)) left parser.old parser.new result }
 {
     let at = parser.ahead;
     parser.advance()?;
-    let right = operand(parser, nodes, depth, level)?;
-    let root = parser.put(nodes, operator.node(left, right), at);
-    more(parser, nodes, depth, level.after(), root)
+    let right = operand(parser, depth, level)?;
+    let root = parser.put(operator.node(left, right), at);
+    more(parser, depth, level.after(), root)
 }
 
 // join-op → join [ expr ], and its right operand, then those that follow.
 #[cycle(expression)]
-fn joined<'a>(
-    parser: &mut Parser<'a>,
-    nodes: &mut [Node],
-    depth: u8,
-    level: Level,
-    left: u16,
-) -> Result<u16, Fault>
+fn joined(parser: &mut Parser<'_>, depth: u8, level: Level, left: u16) -> Result<u16, Fault>
     requires takes { turn.Join ≡ turn_in level (spoken parser.old.ahead.token) }
-    requires room { parser.old.count + worth parser.old ≤ nodes_limit }
-    requires fits { nodes_limit ≤ length nodes.old }
+    ensures lent { parser.new.nodes.ghost_name ≡ parser.old.nodes.ghost_name }
     ensures numbers { OnOk result (NumbersOn parser.old parser.new) }
-    ensures answer { GoesOn Expressed (rest (operand_reader depth level) (brackets_at any_token depth) (level_of level)) left parser.old parser.new nodes.old nodes.new result }
+    ensures answer { GoesOn Expressed (rest (operand_reader depth level) (brackets_at any_token depth) (level_of level)) left parser.old parser.new result }
 {
     let at = parser.ahead;
     parser.advance()?;
-    let condition = bracket(parser, nodes, depth)?;
-    let right = operand(parser, nodes, depth, level)?;
-    let root = parser.put(nodes, What::Joined(left, condition, right), at);
-    more(parser, nodes, depth, level.after(), root)
+    let condition = bracket(parser, depth)?;
+    let right = operand(parser, depth, level)?;
+    let root = parser.put(What::Joined(left, condition, right), at);
+    more(parser, depth, level.after(), root)
 }
 
 // factor → unary-op factor | ( expr ) | id | constant
 #[cycle(expression)]
-fn factor<'a>(parser: &mut Parser<'a>, nodes: &mut [Node], depth: u8) -> Result<u16, Fault>
-    requires room { parser.old.count + worth parser.old ≤ nodes_limit }
-    requires fits { nodes_limit ≤ length nodes.old }
+fn factor(parser: &mut Parser<'_>, depth: u8) -> Result<u16, Fault>
+    ensures lent { parser.new.nodes.ghost_name ≡ parser.old.nodes.ghost_name }
     ensures numbers { OnOk result (Numbers parser.old parser.new) }
-    ensures answer { Follows Expressed (factors_at any_token depth) parser.old parser.new nodes.old nodes.new result }
+    ensures answer { Follows Expressed (factors_at any_token depth) parser.old parser.new result }
 {
     match begins(parser.ahead.token) {
-        Start::Name => leaf(parser, nodes, Leaf::Name),
-        Start::Constant => leaf(parser, nodes, Leaf::Constant),
-        Start::Minus => minus(parser, nodes, depth),
-        Start::Not => not(parser, nodes, depth),
-        Start::Unary(operator) => unary(parser, nodes, depth, operator),
-        Start::Parenthesis => enclosed(parser, nodes, depth, Sign::RightParenthesis),
-        Start::Brace => table_const(parser, nodes, depth),
-        Start::Nothing => Err(parser.refuse()),
+        Start::Name => leaf(parser, Leaf::Name),
+        Start::Constant => leaf(parser, Leaf::Constant),
+        Start::Negation(sign) => negation(parser, depth, sign),
+        Start::Unary(operator) => unary(parser, depth, operator),
+        Start::Parenthesis => enclosed(parser, depth, Sign::RightParenthesis),
+        Start::Brace => table_const(parser, depth),
+        Start::Nothing => Err(parser.refuse(Rule::CannotFollow)),
     }
 }
 
-// unary-op → -
+// unary-op → - | not
 #[cycle(expression)]
-fn minus<'a>(parser: &mut Parser<'a>, nodes: &mut [Node], depth: u8) -> Result<u16, Fault>
+fn negation(parser: &mut Parser<'_>, depth: u8, sign: Negation) -> Result<u16, Fault>
     requires token { 0 < pays_ahead (spoken parser.old.ahead.token) }
-    requires room { parser.old.count + worth parser.old ≤ nodes_limit }
-    requires fits { nodes_limit ≤ length nodes.old }
+    ensures lent { parser.new.nodes.ghost_name ≡ parser.old.nodes.ghost_name }
     ensures numbers { OnOk result (Numbers parser.old parser.new) }
-    ensures answer { Follows Expressed (opened depth (negation_behind unary_minus)) parser.old parser.new nodes.old nodes.new result }
+    ensures answer { Follows Expressed (opened depth (negation_behind (negation_of sign))) parser.old parser.new result }
 {
     let at = parser.ahead;
     let below = parser.open(depth)?;
-    let operand = factor(parser, nodes, below)?;
-    Ok(parser.put(nodes, What::Negative(operand), at))
-}
-
-// unary-op → not
-#[cycle(expression)]
-fn not<'a>(parser: &mut Parser<'a>, nodes: &mut [Node], depth: u8) -> Result<u16, Fault>
-    requires token { 0 < pays_ahead (spoken parser.old.ahead.token) }
-    requires room { parser.old.count + worth parser.old ≤ nodes_limit }
-    requires fits { nodes_limit ≤ length nodes.old }
-    ensures numbers { OnOk result (Numbers parser.old parser.new) }
-    ensures answer { Follows Expressed (opened depth (negation_behind unary_not)) parser.old parser.new nodes.old nodes.new result }
-{
-    let at = parser.ahead;
-    let below = parser.open(depth)?;
-    let operand = factor(parser, nodes, below)?;
-    Ok(parser.put(nodes, What::Negated(operand), at))
+    let operand = factor(parser, below)?;
+    Ok(parser.put(sign.node(operand), at))
 }
 
 // The operators with brackets: project, rename, select, exists, all, update, extend.
 #[cycle(expression)]
-fn unary<'a>(
-    parser: &mut Parser<'a>,
-    nodes: &mut [Node],
-    depth: u8,
-    operator: Unary,
-) -> Result<u16, Fault>
+fn unary(parser: &mut Parser<'_>, depth: u8, operator: Unary) -> Result<u16, Fault>
     requires token { 0 < pays_ahead (spoken parser.old.ahead.token) }
-    requires room { parser.old.count + worth parser.old ≤ nodes_limit }
-    requires fits { nodes_limit ≤ length nodes.old }
+    ensures lent { parser.new.nodes.ghost_name ≡ parser.old.nodes.ghost_name }
     ensures numbers { OnOk result (Numbers parser.old parser.new) }
-    ensures answer { Follows Expressed (opened depth (unary_behind (unary_of operator))) parser.old parser.new nodes.old nodes.new result }
+    ensures answer { Follows Expressed (opened depth (unary_behind (unary_of operator))) parser.old parser.new result }
 {
     let at = parser.ahead;
     let below = parser.open(depth)?;
     parser.expect(Wanted::Sign(Sign::LeftBracket))?;
     let first = parser.count;
-    let argument = inside(parser, nodes, below, operator)?;
+    let argument = inside(parser, below, operator)?;
     parser.expect(Wanted::Sign(Sign::RightBracket))?;
-    let operand = factor(parser, nodes, below)?;
-    Ok(parser.put(nodes, operator.node(first, argument, operand), at))
+    let operand = factor(parser, below)?;
+    Ok(parser.put(operator.node(first, argument, operand), at))
 }
 
 // What stands in the brackets of an operator.
 #[cycle(expression)]
-fn inside<'a>(
-    parser: &mut Parser<'a>,
-    nodes: &mut [Node],
-    depth: u8,
-    operator: Unary,
-) -> Result<u16, Fault>
-    requires room { parser.old.count + worth parser.old ≤ nodes_limit }
-    requires fits { nodes_limit ≤ length nodes.old }
+fn inside(parser: &mut Parser<'_>, depth: u8, operator: Unary) -> Result<u16, Fault>
+    ensures lent { parser.new.nodes.ghost_name ≡ parser.old.nodes.ghost_name }
     ensures numbers { OnOk result (Numbers parser.old parser.new) }
-    ensures answer { Follows (Inside (argument_of (unary_of operator))) (inside_reader depth (argument_of (unary_of operator))) parser.old parser.new nodes.old nodes.new result }
+    ensures answer { Follows (Inside (argument_of (unary_of operator))) (inside_reader depth (argument_of (unary_of operator))) parser.old parser.new result }
 {
     match operator.bracketed() {
-        Bracketed::Names => list(parser, nodes, Listed::Names),
-        Bracketed::Condition => expr(parser, nodes, depth),
-        Bracketed::Update => assigned(parser, nodes, depth),
-        Bracketed::Extend => extended(parser, nodes, depth),
+        Bracketed::Names => list(parser, Listed::Names),
+        Bracketed::Condition => expr(parser, depth),
+        Bracketed::Update => assigned(parser, depth),
+        Bracketed::Extend => extended(parser, depth),
     }
 }
 
 // atomic-type id = expr
 #[cycle(expression)]
-fn extended<'a>(parser: &mut Parser<'a>, nodes: &mut [Node], depth: u8) -> Result<u16, Fault>
-    requires room { parser.old.count + worth parser.old ≤ nodes_limit }
-    requires fits { nodes_limit ≤ length nodes.old }
+fn extended(parser: &mut Parser<'_>, depth: u8) -> Result<u16, Fault>
+    ensures lent { parser.new.nodes.ghost_name ≡ parser.old.nodes.ghost_name }
     ensures numbers { OnOk result (Numbers parser.old parser.new) }
-    ensures answer { Follows (Inside extend_argument) (inside_reader depth extend_argument) parser.old parser.new nodes.old nodes.new result }
+    ensures answer { Follows (Inside extend_argument) (inside_reader depth extend_argument) parser.old parser.new result }
 {
-    leaf(parser, nodes, Leaf::Type)?;
-    assigned(parser, nodes, depth)
+    leaf(parser, Leaf::Type)?;
+    assigned(parser, depth)
 }
 
 // id = expr
 #[cycle(expression)]
-pub fn assigned<'a>(parser: &mut Parser<'a>, nodes: &mut [Node], depth: u8) -> Result<u16, Fault>
-    requires room { parser.old.count + worth parser.old ≤ nodes_limit }
-    requires fits { nodes_limit ≤ length nodes.old }
+pub fn assigned(parser: &mut Parser<'_>, depth: u8) -> Result<u16, Fault>
+    ensures lent { parser.new.nodes.ghost_name ≡ parser.old.nodes.ghost_name }
     ensures numbers { OnOk result (Numbers parser.old parser.new) }
-    ensures answer { Follows Assigned (assigned_reader depth) parser.old parser.new nodes.old nodes.new result }
+    ensures answer { Follows Assigned (assigned_reader depth) parser.old parser.new result }
 {
-    leaf(parser, nodes, Leaf::Name)?;
+    leaf(parser, Leaf::Name)?;
     parser.expect(Wanted::Sign(Sign::Assign))?;
-    expr(parser, nodes, depth)
+    expr(parser, depth)
 }
 
 // The bracket of a join or of a specifier: [ expr ]
 #[cycle(expression)]
-pub fn bracket<'a>(parser: &mut Parser<'a>, nodes: &mut [Node], depth: u8) -> Result<u16, Fault>
-    requires room { parser.old.count + worth parser.old ≤ nodes_limit }
-    requires fits { nodes_limit ≤ length nodes.old }
+pub fn bracket(parser: &mut Parser<'_>, depth: u8) -> Result<u16, Fault>
+    ensures lent { parser.new.nodes.ghost_name ≡ parser.old.nodes.ghost_name }
     ensures numbers { OnOk result (Numbers parser.old parser.new) }
-    ensures answer { Follows Expressed (brackets_at any_token depth) parser.old parser.new nodes.old nodes.new result }
+    ensures answer { Follows Expressed (brackets_at any_token depth) parser.old parser.new result }
 {
     if !parser.sees(Wanted::Sign(Sign::LeftBracket)) {
-        return Err(parser.refuse());
+        return Err(parser.refuse(Rule::CannotFollow));
     }
-    enclosed(parser, nodes, depth, Sign::RightBracket)
+    enclosed(parser, depth, Sign::RightBracket)
 }
 
 // An expression one deeper, up to the sign that closes it.
 #[cycle(expression)]
-fn enclosed<'a>(
-    parser: &mut Parser<'a>,
-    nodes: &mut [Node],
-    depth: u8,
-    closing: Sign,
-) -> Result<u16, Fault>
+fn enclosed(parser: &mut Parser<'_>, depth: u8, closing: Sign) -> Result<u16, Fault>
     requires token { 0 < pays_ahead (spoken parser.old.ahead.token) }
-    requires room { parser.old.count + worth parser.old ≤ nodes_limit }
-    requires fits { nodes_limit ≤ length nodes.old }
+    ensures lent { parser.new.nodes.ghost_name ≡ parser.old.nodes.ghost_name }
     ensures numbers { OnOk result (Numbers parser.old parser.new) }
-    ensures answer { Follows Expressed (opened depth (enclosed_behind (closing_token closing))) parser.old parser.new nodes.old nodes.new result }
+    ensures answer { Follows Expressed (opened depth (enclosed_behind (closing_token closing))) parser.old parser.new result }
 {
     let below = parser.open(depth)?;
-    let inner = expr(parser, nodes, below)?;
+    let inner = expr(parser, below)?;
     parser.expect(Wanted::Sign(closing))?;
     Ok(inner)
 }

@@ -1,7 +1,7 @@
 // What a token is where an expression goes on or a factor begins.
 ghost use Rattle.std.specs.Prelude.{◌≡◌, ◌<◌};
 ghost use Rattle.words.specs.Views.{spoken};
-ghost use Rattle.expressions.specs.Starts.{start_in, turn_in, level_behind, operator_node, unary_node, instance_of, table_node, bracketed_of};
+ghost use Rattle.expressions.specs.Starts.{start_in, turn_in, level_behind, operator_node, unary_node, negation_node, listed_of, table_node, bracketed_of};
 
 use phrases::sorts::Listed;
 use tree::What;
@@ -44,12 +44,18 @@ pub enum Unary {
     Extend,
 }
 
+// The operators that stand before their operand alone.
+#[derive(Clone, Copy)]
+pub enum Negation {
+    Minus,
+    Not,
+}
+
 #[derive(Clone, Copy)]
 pub enum Start {
     Name,
     Constant,
-    Minus,
-    Not,
+    Negation(Negation),
     Unary(Unary),
     Parenthesis,
     Brace,
@@ -63,8 +69,8 @@ pub fn begins(token: Token) -> Start
     match token {
         Token::Name(_) => Start::Name,
         Token::Integer(_) | Token::Text(_) | Token::Truth(_) => Start::Constant,
-        Token::Sum(Sum::Minus) => Start::Minus,
-        Token::Word(Word::Not) => Start::Not,
+        Token::Sum(Sum::Minus) => Start::Negation(Negation::Minus),
+        Token::Word(Word::Not) => Start::Negation(Negation::Not),
         Token::Word(Word::Project) => Start::Unary(Unary::Project),
         Token::Word(Word::Rename) => Start::Unary(Unary::Rename),
         Token::Word(Word::Select) => Start::Unary(Unary::Select),
@@ -155,23 +161,41 @@ impl Unary {
     }
 }
 
-// The elements of a table constant.
-pub fn instance(tuples: bool) -> Listed
-    ensures { result ≡ instance_of tuples }
-{
-    if tuples {
-        Listed::Tuples
-    } else {
-        Listed::Types
+impl Negation {
+    pub fn node(self, operand: u16) -> What
+        ensures { result ≡ negation_node self operand }
+    {
+        match self {
+            Negation::Minus => What::Negative(operand),
+            Negation::Not => What::Negated(operand),
+        }
     }
 }
 
-pub fn table_node(tuples: bool, first: u16) -> What
-    ensures { result ≡ table_node tuples first }
-{
-    if tuples {
-        What::TableOfTuples(first)
-    } else {
-        What::TableOfTypes(first)
+// What a table constant has: tuples, or the types of a table without rows.
+#[derive(Clone, Copy)]
+pub enum Instance {
+    Tuples,
+    Types,
+}
+
+impl Instance {
+    pub fn listed(self) -> Listed
+        ensures { result ≡ listed_of self }
+    {
+        match self {
+            Instance::Tuples => Listed::Tuples,
+            Instance::Types => Listed::Types,
+        }
+    }
+
+    // The node by the entry of the first element.
+    pub fn node(self, first: u16) -> What
+        ensures { result ≡ table_node self first }
+    {
+        match self {
+            Instance::Tuples => What::TableOfTuples(first),
+            Instance::Types => What::TableOfTypes(first),
+        }
     }
 }

@@ -1,31 +1,43 @@
 // Table constants: tuples, or the types of a table without rows.
-ghost use Rattle.std.specs.Prelude.{◌≡◌, ◌+◌, ◌<◌, ◌≤◌, length, OnOk};
-ghost use Rattle.fault.specs.Limits.{nodes as nodes_limit};
+ghost use Rattle.std.specs.Prelude.{◌≡◌, ◌<◌, OnOk, ◌==◌};
+ghost use Rattle.words.specs.Tokens.{Terminal.sign};
+ghost use Rattle.words.specs.declared.tokens.Sign.TheVariants.{LeftParenthesis};
+ghost use Rattle.grammar.specs.Parts.{code_in};
+ghost use Rattle.expressions.specs.Starts.{instance_of};
 ghost use Rattle.words.specs.Views.{spoken};
 ghost use Rattle.phrases.specs.Places.{pays_ahead};
-ghost use Rattle.phrases.specs.States.{worth, Numbers, Follows};
+ghost use Rattle.phrases.specs.States.{code_ahead, Numbers, Follows};
 ghost use Rattle.expressions.specs.Shapes.{Expressed, table_reader};
 
-use crate::sorts::{instance, table_node};
+use crate::sorts::Instance;
 use fault::Fault;
 use phrases::Parser;
 use phrases::lists::list;
 use phrases::sorts::Wanted;
-use tree::Node;
 use words::Sign;
 
+// A table constant has tuples where it begins with a parenthesis, else types.
+fn instance(parser: &Parser<'_>) -> Instance
+    ensures { result ≡ instance_of (code_in (sign LeftParenthesis) == code_ahead (spoken parser.now.ahead.token)) }
+{
+    if parser.sees(Wanted::Sign(Sign::LeftParenthesis)) {
+        Instance::Tuples
+    } else {
+        Instance::Types
+    }
+}
+
 // table-const → { tuple-list | atomic-type-list }
-pub fn table_const<'a>(parser: &mut Parser<'a>, nodes: &mut [Node], depth: u8) -> Result<u16, Fault>
+pub fn table_const(parser: &mut Parser<'_>, depth: u8) -> Result<u16, Fault>
     requires token { 0 < pays_ahead (spoken parser.old.ahead.token) }
-    requires room { parser.old.count + worth parser.old ≤ nodes_limit }
-    requires fits { nodes_limit ≤ length nodes.old }
+    ensures lent { parser.new.nodes.ghost_name ≡ parser.old.nodes.ghost_name }
     ensures numbers { OnOk result (Numbers parser.old parser.new) }
-    ensures answer { Follows Expressed (table_reader depth) parser.old parser.new nodes.old nodes.new result }
+    ensures answer { Follows Expressed (table_reader depth) parser.old parser.new result }
 {
     let at = parser.ahead;
     parser.advance()?;
-    let tuples = parser.sees(Wanted::Sign(Sign::LeftParenthesis));
-    let first = list(parser, nodes, instance(tuples))?;
+    let instance = instance(parser);
+    let first = list(parser, instance.listed())?;
     parser.expect(Wanted::Sign(Sign::RightBrace))?;
-    Ok(parser.put(nodes, table_node(tuples, first), at))
+    Ok(parser.put(instance.node(first), at))
 }

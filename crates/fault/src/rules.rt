@@ -76,6 +76,7 @@ pub struct Fault {
 }
 
 impl Rule {
+    // A table and no discriminants, since three rules have the number 52.
     pub fn number(self) -> u8
         ensures { result ≡ number_of self }
     {

@@ -1,3 +1,2 @@
 pub mod Puts
-pub mod Parts
 pub mod Loops

@@ -1,32 +1,38 @@
 // The calls: one line each, at the start of the buffer. A buffer under `LINE_BYTES` is refused, even if the line would fit,
 // and then it is left as it was. Every line fits `LINE_BYTES` bytes.
-ghost use Rattle.std.specs.Prelude.{◌≡◌, ◌+◌, ◌*◌, ◌≤◌, length, IfOk};
-ghost use Rattle.fault.specs.Limits.{columns, line_bytes};
+ghost use Rattle.std.specs.Prelude.{◌≡◌, ◌<◌, ◌≤◌, length, MatchResult};
+ghost use Rattle.fault.specs.Limits.{line_bytes};
 ghost use Rattle.schema.specs.Columns.{schema_of, held};
 ghost use Rattle.schema.specs.Kinds.{type_of};
-ghost use Rattle.texts.specs.Lines.{heading_line, row_line, end_line, atom_line, to_line, wish_line, format_line, source_bytes};
-ghost use Rattle.lines.specs.Buffers.{Writes, value_room, column_room, line_reply, line_after};
+ghost use Rattle.texts.specs.Lines.{heading_line, row_line, end_line, atom_line, to_line, wish_line};
+ghost use Rattle.lines.specs.Buffers.{WritesLine, too_small};
 ghost use Rattle.lines.specs.Shown.{text_of, value_of, values_of, name_of};
 
-use crate::buffers::{put, put_all, put_string, too_small};
-use crate::columns::put_heading;
-use crate::entries::{put_entries, put_value};
+use crate::entries::Entries;
 use crate::shown::{Shown, Sources, Text};
-use fault::Fault;
+use crate::writing::Line;
 use fault::limits::{COLUMNS, LINE_BYTES};
-use listing::names::letter_byte;
+use fault::{Fault, Place, Rule};
 use schema::{Kind, Schema};
+
+// The refusal of a buffer that is too small for some line.
+fn fits(buffer: &[u8]) -> Result<(), Fault>
+    ensures { MatchResult result (λ _. line_bytes ≤ length buffer.now) (λ f. (length buffer.now < line_bytes) × (f ≡ too_small)) }
+{
+    if buffer.len() < LINE_BYTES {
+        return Err(Place::NOWHERE.fault(Rule::BufferTooSmall));
+    }
+    Ok(())
+}
 
 // `(a:i,b:s)`: the heading of a table.
 pub fn heading_line(line: &mut [u8], schema: &Schema, script: &[u8]) -> Result<usize, Fault>
-    ensures reply { result ≡ line_reply (heading_line (schema_of script.now schema.now)) line.old }
-    ensures after { line.new ≡ line_after (heading_line (schema_of script.now schema.now)) line.old }
-    ensures fits { IfOk result (λ n. n ≤ line_bytes) }
+    ensures { WritesLine (heading_line (schema_of script.now schema.now)) line.old line.new result }
 {
-    if line.len() < LINE_BYTES {
-        return Err(too_small());
-    }
-    Ok(put_heading(line, 0, schema, script))
+    fits(line)?;
+    let mut heading = Line::new(line);
+    heading.put_heading(schema, script);
+    Ok(heading.length)
 }
 
 // `(3,"x")`: a row of a table, the first values of those given.
@@ -36,83 +42,45 @@ pub fn row_line(
     values: &[Shown; COLUMNS],
     sources: Sources<'_>,
 ) -> Result<usize, Fault>
-    ensures reply { result ≡ line_reply (row_line (values_of sources.entry (length (held schema.now)) values.now)) line.old }
-    ensures after { line.new ≡ line_after (row_line (values_of sources.entry (length (held schema.now)) values.now)) line.old }
-    ensures fits { IfOk result (λ n. n ≤ line_bytes) }
+    ensures { WritesLine (row_line (values_of sources.entry (length (held schema.now)) values.now)) line.old line.new result }
 {
-    if line.len() < LINE_BYTES {
-        return Err(too_small());
-    }
-    let start = put(line, 0, b'(');
-    Ok(put_entries(line, start, &values[0..schema.width()], sources))
+    fits(line)?;
+    let mut row = Line::new(line);
+    row.put_entries(&sources, &values[..schema.width()]);
+    Ok(row.length)
 }
 
 // `end`: the last line of a table.
 pub fn end_line(line: &mut [u8]) -> Result<usize, Fault>
-    ensures reply { result ≡ line_reply end_line line.old }
-    ensures after { line.new ≡ line_after end_line line.old }
-    ensures fits { IfOk result (λ n. n ≤ line_bytes) }
+    ensures { WritesLine end_line line.old line.new result }
 {
-    if line.len() < LINE_BYTES {
-        return Err(too_small());
-    }
-    Ok(put_all(line, 0, b"end\n"))
+    fits(line)?;
+    let mut end = Line::new(line);
+    end.put_all(b"end\n");
+    Ok(end.length)
 }
 
 // An atom.
 pub fn atom_line(line: &mut [u8], value: Shown, sources: Sources<'_>) -> Result<usize, Fault>
-    ensures reply { result ≡ line_reply (atom_line (value_of sources.entry value)) line.old }
-    ensures after { line.new ≡ line_after (atom_line (value_of sources.entry value)) line.old }
-    ensures fits { IfOk result (λ n. n ≤ line_bytes) }
+    ensures { WritesLine (atom_line (value_of sources.entry value)) line.old line.new result }
 {
-    if line.len() < LINE_BYTES {
-        return Err(too_small());
-    }
-    let end = put_value(line, 0, value, sources);
-    Ok(put(line, end, b'\n'))
+    fits(line)?;
+    let mut atom = Line::new(line);
+    sources.put(&mut atom, &value);
+    atom.put(b'\n');
+    Ok(atom.length)
 }
 
 // `to "NAME"`: the first line of a print that has a name.
 pub fn to_line(line: &mut [u8], name: Text, sources: Sources<'_>) -> Result<usize, Fault>
-    ensures reply { result ≡ line_reply (to_line (text_of sources.entry name)) line.old }
-    ensures after { line.new ≡ line_after (to_line (text_of sources.entry name)) line.old }
-    ensures fits { IfOk result (λ n. n ≤ line_bytes) }
+    ensures { WritesLine (to_line (text_of sources.entry name)) line.old line.new result }
 {
-    if line.len() < LINE_BYTES {
-        return Err(too_small());
-    }
-    let start = put_all(line, 0, b"to ");
-    let quoted = put_string(line, start, name.of(sources));
-    Ok(put(line, quoted, b'\n'))
-}
-
-// A format behind the line: the letter of an atom's domain, or a table's heading, and the line feed.
-fn put_format(line: &mut [u8], at: usize, kind: &Kind, script: &[u8]) -> usize
-    requires { at + columns * column_room + 3 ≤ length line.old }
-    ensures next { result ≡ at + length (format_line (type_of script.now kind.now)) }
-    ensures short { result ≤ at + columns * column_room + 3 }
-    ensures bytes { Writes at (format_line (type_of script.now kind.now)) line.old line.new }
-{
-    match kind {
-        Kind::Atom(domain) => {
-            let next = put(line, at, letter_byte(*domain));
-            put(line, next, b'\n')
-        }
-        Kind::Table(schema) => put_heading(line, at, schema, script),
-    }
-}
-
-// Where a text is to come from, behind the line: a name, or `input`.
-fn put_source(line: &mut [u8], at: usize, source: Option<Text>, sources: Sources<'_>) -> usize
-    requires { at + value_room ≤ length line.old }
-    ensures next { result ≡ at + length (source_bytes (name_of sources.entry source)) }
-    ensures short { result ≤ at + value_room }
-    ensures bytes { Writes at (source_bytes (name_of sources.entry source)) line.old line.new }
-{
-    match source {
-        Some(name) => put_string(line, at, name.of(sources)),
-        None => put_all(line, at, b"input"),
-    }
+    fits(line)?;
+    let mut to = Line::new(line);
+    to.put_all(b"to ");
+    to.put_string(name.of(sources));
+    to.put(b'\n');
+    Ok(to.length)
 }
 
 // `from "NAME" FORMAT`, or `from input FORMAT`: which text is wanted.
@@ -122,15 +90,13 @@ pub fn wish_line(
     kind: &Kind,
     sources: Sources<'_>,
 ) -> Result<usize, Fault>
-    ensures reply { result ≡ line_reply (wish_line (name_of sources.entry source) (type_of sources.entry.script.now kind.now)) line.old }
-    ensures after { line.new ≡ line_after (wish_line (name_of sources.entry source) (type_of sources.entry.script.now kind.now)) line.old }
-    ensures fits { IfOk result (λ n. n ≤ line_bytes) }
+    ensures { WritesLine (wish_line (name_of sources.entry source) (type_of sources.entry.script.now kind.now)) line.old line.new result }
 {
-    if line.len() < LINE_BYTES {
-        return Err(too_small());
-    }
-    let start = put_all(line, 0, b"from ");
-    let next = put_source(line, start, source, sources);
-    let format = put(line, next, b' ');
-    Ok(put_format(line, format, kind, sources.script))
+    fits(line)?;
+    let mut wish = Line::new(line);
+    wish.put_all(b"from ");
+    wish.put_source(source, sources);
+    wish.put(b' ');
+    wish.put_format(kind, sources.script);
+    Ok(wish.length)
 }

@@ -1,73 +1,35 @@
-// Values, and the values of a row.
-ghost use Rattle.std.specs.Prelude.{◌≡◌, ◌+◌, ◌*◌, ◌≤◌, [], ◌++◌, length};
-ghost use Rattle.texts.specs.Lines.{value_bytes, entries_bytes, boolean_bytes};
-ghost use Rattle.lines.specs.Buffers.{Writes, value_room};
-ghost use Rattle.lines.specs.Shown.{value_of};
+// Lines of entries, as headings and rows are: `(`, the entries with commas between them, `)` and the line feed.
+ghost use Rattle.std.specs.Prelude.{◌≡◌, ℕ, ◌+◌, ◌*◌, ◌≤◌, List, length};
+ghost use Rattle.texts.specs.Lines.{line_bytes};
+ghost use Rattle.lines.specs.Buffers.{Adds, HasRoom};
 
-use crate::buffers::{put_all, put_string};
-use crate::numbers::put_integer;
-use crate::shown::{Shown, Sources};
+use crate::writing::Line;
 
-fn put_boolean(line: &mut [u8], at: usize, value: bool) -> usize
-    requires { at + length (boolean_bytes value) ≤ length line.old }
-    ensures next { result ≡ at + length (boolean_bytes value) }
-    ensures bytes { Writes at (boolean_bytes value) line.old line.new }
-{
-    if value {
-        return put_all(line, at, b"true");
-    }
-    put_all(line, at, b"false")
+// Who writes the entries of a line: the bytes of each, and the most that one has.
+pub(crate) trait Entries<T> {
+    ghost text: { Self → T → List ℕ };
+
+    ghost room: { ℕ };
+
+    fn put(&self, line: &mut Line<'_>, entry: &T)
+        requires { HasRoom room line.old }
+        ensures bytes { Adds (text self.now entry.now) line.old line.new }
+        ensures short { length (text self.now entry.now) ≤ room };
 }
 
-// A value behind the line.
-pub(crate) fn put_value(line: &mut [u8], at: usize, value: Shown, sources: Sources<'_>) -> usize
-    requires { at + value_room ≤ length line.old }
-    ensures next { result ≡ at + length (value_bytes (value_of sources.entry value)) }
-    ensures short { result ≤ at + value_room }
-    ensures bytes { Writes at (value_bytes (value_of sources.entry value)) line.old line.new }
-{
-    match value {
-        Shown::Integer(number) => put_integer(line, at, number),
-        Shown::String(text) => put_string(line, at, text.of(sources)),
-        Shown::Boolean(truth) => put_boolean(line, at, truth),
+impl<'a> Line<'a> {
+    pub(crate) fn put_entries<T, W: Entries<T>>(&mut self, writer: &W, entries: &[T])
+        requires { HasRoom (length entries.now * (W.room + 1) + 3) self.old }
+        ensures bytes { Adds (line_bytes (W.text writer.now) entries.now) self.old self.new }
+        ensures short { length (line_bytes (W.text writer.now) entries.now) ≤ length entries.now * (W.room + 1) + 3 }
+    {
+        self.put(b'(');
+        let mut separator: &[u8] = b"";
+        for entry in entries {
+            self.put_all(separator);
+            writer.put(self, entry);
+            separator = b",";
+        }
+        self.put_all(b")\n");
     }
-}
-
-// A value behind what separates it from the one before.
-fn put_entry(
-    line: &mut [u8],
-    at: usize,
-    separator: &[u8],
-    value: Shown,
-    sources: Sources<'_>,
-) -> usize
-    requires separator { length separator.now ≤ 1 }
-    requires room { at + (value_room + 1) ≤ length line.old }
-    ensures next { result ≡ at + length (separator.now ++ value_bytes (value_of sources.entry value)) }
-    ensures short { result ≤ at + (value_room + 1) }
-    ensures bytes { Writes at (separator.now ++ value_bytes (value_of sources.entry value)) line.old line.new }
-{
-    let next = put_all(line, at, separator);
-    put_value(line, next, value, sources)
-}
-
-// The values with commas between them, and the end of the line.
-pub(crate) fn put_entries(
-    line: &mut [u8],
-    at: usize,
-    values: &[Shown],
-    sources: Sources<'_>,
-) -> usize
-    requires { at + length values.now * (value_room + 1) + 2 ≤ length line.old }
-    ensures next { result ≡ at + length (entries_bytes (λ v. value_bytes (value_of sources.entry v)) [] values.now) }
-    ensures short { result ≤ at + length values.now * (value_room + 1) + 2 }
-    ensures bytes { Writes at (entries_bytes (λ v. value_bytes (value_of sources.entry v)) [] values.now) line.old line.new }
-{
-    let mut next = at;
-    let mut separator: &[u8] = b"";
-    for value in values {
-        next = put_entry(line, next, separator, *value, sources);
-        separator = b",";
-    }
-    put_all(line, next, b")\n")
 }

@@ -3,12 +3,12 @@
 // Nothing here knows of a run or of a store: values come in ready to be shown.
 #![tactic(auto)]
 
-mod buffers;
 pub mod calls;
-mod columns;
 mod entries;
-mod numbers;
+mod headings;
 pub mod shown;
+mod values;
+mod writing;
 
 pub use calls::{atom_line, end_line, heading_line, row_line, to_line, wish_line};
 pub use shown::{Shown, Sources, Text};

@@ -32,16 +32,9 @@ pub fn part<'a>(span: Span, bytes: &'a [u8]) -> &'a [u8]
     ensures value { result.now ≡ part bytes.now span }
     ensures short { length result.now ≤ string_bytes }
 {
-    let start = span.start as usize;
-    if start > bytes.len() {
-        return &bytes[0..0];
-    }
-    let rest = &bytes[start..];
-    let len = span.len as usize;
-    if len > rest.len() {
-        return rest;
-    }
-    &rest[0..len]
+    let rest = &bytes[bytes.len().min(span.start as usize)..];
+    let length = rest.len().min(span.len as usize);
+    &rest[..length]
 }
 
 impl Text {

@@ -1,74 +1,60 @@
 -- The readers of the code, step by step: a string byte by byte, a word byte by byte.
-use Rattle.std.proofs.Common.{◌≡◌, ℕ, zero, suc, ◌+◌, ◌-◌, ◌<◌, ◌≤◌, Bool, true, false, cond, eqb, ◌≢◌, ◌⊎◌, List, [], ◌∷◌, ◌++◌, length, get_or, take, drop, codes, sym, refl, ap, ◌∙◌, inl, inr, append_assoc, append-nil, arith}
-use mathlib.Core.List.{head-eq_of_cons-eq}
-use Rattle.std.proofs.lemmas.List.{take_more, drop_more, get_or-drop, length-drop, take_rest}
+use Rattle.std.proofs.Common.{◌≡◌, ℕ, zero, suc, ◌+◌, ◌-◌, ◌<◌, Bool, true, false, cond, eqb, List, [], ◌∷◌, length, get_or, take, drop, codes, sym, refl, ap, add-one, ◌∙◌, arith}
+use Rattle.std.proofs.lemmas.List.{drop-drop, drop_more, take_rest}
 use Rattle.fault.specs.declared.rules.Rule.{Rule}
+use Rattle.fault.specs.Limits.{string_bytes}
 use Rattle.fault.specs.declared.rules.Rule.TheVariants.{WrongCell}
 use Rattle.texts.specs.Readers.{Reading, Reading.taken, Reading.refused, first, bind, word, word_on}
+use Rattle.texts.specs.Language.{quote}
 use Rattle.texts.proofs.Turns.{word_as}
-use Rattle.texts.specs.Language.{plain}
+use Rattle.words.specs.Letters.{plain, run}
 use Rattle.texts.specs.Reading.{next, read_quoted, read_boolean}
 
--- what was taken before stands in front
-abbrev pub behind : List ℕ → Reading (List ℕ) → Reading (List ℕ)
-behind p x = bind x (λ cs r. taken (p ++ cs) r)
+-- what stands in a string: the plain bytes, as far as a string goes; then the quote has to come
+abbrev pub quoted_by : ℕ → List ℕ → Reading (List ℕ)
+quoted_by k s = bind (word WrongCell quote (tt {0}) (drop k s)) (λ (_ : Unit {0}) r. taken (take k s) r)
 
-abbrev pub between : List ℕ → ℕ → ℕ → List ℕ
-between t i j = take (j - i) (drop i t)
+quoted_more : (k b : ℕ) (s : List ℕ) → bind (quoted_by k s) (λ bs r. taken (b ∷ bs) r) ≡ quoted_by (k + 1) (b ∷ s)
+quoted_more k b s = go (word WrongCell quote (tt {0}) (drop k s)) ∙ ap (λ n. quoted_by n (b ∷ s)) (sym (add-one k))
+  where
+    go : (y : Reading (Unit {0})) → bind (bind y (λ (_ : Unit {0}) r. taken (take k s) r)) (λ bs r. taken (b ∷ bs) r) ≡ bind y (λ (_ : Unit {0}) r. taken (b ∷ take k s) r)
+    go (taken u r) = refl
+    go (refused other r) = refl
 
-quoted_quote : (n : ℕ) (u : List ℕ) → read_quoted n (34 ∷ u) ≡ taken [] u
+pub quoted_run : (n : ℕ) (s : List ℕ) → read_quoted n s ≡ quoted_by (run plain (take n s)) s
 unfolding read_quoted
-quoted_quote zero u = refl
-quoted_quote (suc n) u = refl
+quoted_run zero s = word_as WrongCell quote [] s
+quoted_run (suc n) [] = refl
+quoted_run (suc n) (b ∷ s) = go (quoted_run n s) (plain b) refl (eqb b 34) refl
+  where
+    go : read_quoted n s ≡ quoted_by (run plain (take n s)) s → (x : Bool) → plain b ≡ x → (y : Bool) → eqb b 34 ≡ y → read_quoted (suc n) (b ∷ s) ≡ quoted_by (run plain (take (suc n) (b ∷ s))) (b ∷ s)
+    go i true h true e = absurd (grind (arith, h, e))
+    go i true h false e =
+        let longer : run plain (take (suc n) (b ∷ s)) ≡ run plain (take n s) + 1 = rw (h, run) refl in
+        let read : read_quoted (suc n) (b ∷ s) ≡ bind (read_quoted n s) (λ bs r. taken (b ∷ bs) r) = rw (h, e) refl in
+        read ∙ (ap (λ z. bind z (λ bs r. taken (b ∷ bs) r)) i ∙ (quoted_more (run plain (take n s)) b s ∙ ap (λ k. quoted_by k (b ∷ s)) (sym longer)))
+    go i false h true e =
+        let none : run plain (take (suc n) (b ∷ s)) ≡ 0 = rw (h, run) refl in
+        let closed : quoted_by 0 (b ∷ s) ≡ taken [] s = rw e refl in
+        let read : read_quoted (suc n) (b ∷ s) ≡ taken [] s = rw (h, e) refl in
+        read ∙ (sym closed ∙ ap (λ k. quoted_by k (b ∷ s)) (sym none))
+    go i false h false e =
+        let none : run plain (take (suc n) (b ∷ s)) ≡ 0 = rw (h, run) refl in
+        let barred : quoted_by 0 (b ∷ s) ≡ refused WrongCell (b ∷ s) = rw e refl in
+        let read : read_quoted (suc n) (b ∷ s) ≡ refused WrongCell (b ∷ s) = rw (h, e) refl in
+        read ∙ (sym barred ∙ ap (λ k. quoted_by k (b ∷ s)) (sym none))
 
-quoted_end : (n : ℕ) → read_quoted n [] ≡ refused WrongCell []
-unfolding read_quoted
-quoted_end zero = refl
-quoted_end (suc n) = refl
+-- from where the reader stands behind them
+module _ (t : List ℕ) (at k : ℕ) (is : k ≡ run plain (take string_bytes (take (length t - at) (drop at t)))) where
+  quoted_here : bind (word WrongCell quote (tt {0}) (drop (at + k) t)) (λ (_ : Unit {0}) r. taken (take k (drop at t)) r) ≡ read_quoted string_bytes (drop at t)
+  quoted_here = ap (λ z. bind (word WrongCell quote (tt {0}) z) (λ (_ : Unit {0}) r. taken (take k (drop at t)) r)) (sym (drop-drop k at t))
+      ∙ (ap (λ n. quoted_by n (drop at t)) (is ∙ ap (λ z. run plain (take string_bytes z)) (take_rest t at)) ∙ sym (quoted_run string_bytes (drop at t)))
 
-quoted_barred : (n b : ℕ) (u : List ℕ) → eqb b 34 ≡ false → (n ≡ 0) ⊎ (plain b ≡ false) → read_quoted n (b ∷ u) ≡ refused WrongCell (b ∷ u)
-unfolding read_quoted
-quoted_barred zero b u h k = rw h
-quoted_barred (suc n) b u h (inl e) = absurd (omega (arith, e))
-quoted_barred (suc n) b u h (inr e) = rw (e, h)
+  pub quoted_right : (u : List ℕ) (r : List ℕ) → u ≡ t → taken tt r ≡ word WrongCell quote (tt {0}) (drop (at + k) t) → taken (take k (drop at u)) r ≡ read_quoted string_bytes (drop at t)
+  quoted_right u r same e = ap (λ z. taken (take k (drop at z)) r) same ∙ (ap (λ z. bind z (λ (_ : Unit {0}) r. taken (take k (drop at t)) r)) e ∙ quoted_here)
 
-quoted_on : (n b : ℕ) (u : List ℕ) → eqb b 34 ≡ false → 0 < n → plain b ≡ true → read_quoted n (b ∷ u) ≡ behind (b ∷ []) (read_quoted (n - 1) u)
-unfolding read_quoted
-quoted_on zero b u h p k = absurd (omega arith)
-quoted_on (suc n) b u h p k = let less : suc n - 1 ≡ n = omega arith in rw (k, h, less)
-
-between_more : (t : List ℕ) (i j b : ℕ) (u : List ℕ) → i ≤ j → j < length t → drop j t ≡ b ∷ u → between t i (j + 1) ≡ between t i j ++ (b ∷ [])
-between_more t i j b u p q e =
-    let one : j + 1 - i ≡ j - i + 1 = omega arith in
-    let at : i + (j - i) ≡ j = omega arith in
-    let is : get_or t j 0 ≡ b = head-eq_of_cons-eq (sym (drop_more t j 0 q) ∙ e) in
-    let got : get_or (drop i t) (j - i) 0 ≡ b = get_or-drop i t (j - i) 0 ∙ (ap (λ n. get_or t n 0) at ∙ is) in
-    ap (λ n. take n (drop i t)) one ∙ (take_more (drop i t) (j - i) 0 (let long = length-drop i t in omega (arith, long)) ∙ ap (λ z. take (j - i) (drop i t) ++ (z ∷ [])) got)
-
-pub behind_more : (p : List ℕ) (b : ℕ) (x : Reading (List ℕ)) → behind (p ++ (b ∷ [])) x ≡ behind p (behind (b ∷ []) x)
-behind_more p b (taken cs r) = ap (λ z. taken z r) (append_assoc p (b ∷ []) cs)
-behind_more p b (refused l r) = refl
-
-pub none_taken : (t : List ℕ) (i : ℕ) (x : Reading (List ℕ)) → behind (between t i i) x ≡ x
-none_taken t i (taken cs r) = let none : i - i ≡ 0 = omega arith in ap (λ n. taken (take n (drop i t) ++ cs) r) none
-none_taken t i (refused l r) = refl
-
--- the turns of the loop: what is taken before, and what is left, give the whole answer x
-module _ (t : List ℕ) (i j left : ℕ) (x : Reading (List ℕ)) (whole : behind (between t i j) (read_quoted left (drop j t)) ≡ x) where
-  pub closed : drop j t ≡ 34 ∷ drop (j + 1) t → taken (between t i j) (drop (j + 1) t) ≡ x
-  closed e = ap (λ z. taken z (drop (j + 1) t)) (sym (append-nil (between t i j))) ∙ (ap (behind (between t i j)) (sym (ap (read_quoted left) e ∙ quoted_quote left (drop (j + 1) t))) ∙ whole)
-
-  pub ended : drop j t ≡ [] → refused WrongCell (drop j t) ≡ x
-  ended e = ap (refused WrongCell) e ∙ (ap (behind (between t i j)) (sym (ap (read_quoted left) e ∙ quoted_end left)) ∙ whole)
-
-  pub barred : (b : ℕ) (u : List ℕ) → drop j t ≡ b ∷ u → b ≢ 34 → (left ≡ 0) ⊎ (plain b ≡ false) → refused WrongCell (drop j t) ≡ x
-  barred b u e h k = ap (refused WrongCell) e ∙ (ap (behind (between t i j)) (sym (ap (read_quoted left) e ∙ quoted_barred left b u (grind (arith, h)) k)) ∙ whole)
-
-  pub turned : (b : ℕ) (u : List ℕ) → drop j t ≡ b ∷ u → i ≤ j → j < length t → b ≢ 34 → 0 < left → plain b ≡ true → behind (between t i (j + 1)) (read_quoted (left - 1) u) ≡ x
-  turned b u e p q h k l =
-      ap (λ z. behind z (read_quoted (left - 1) u)) (between_more t i j b u p q e)
-      ∙ (behind_more (between t i j) b (read_quoted (left - 1) u)
-      ∙ (ap (behind (between t i j)) (sym (ap (read_quoted left) e ∙ quoted_on left b u (grind (arith, h)) k l)) ∙ whole))
+  pub quoted_wrong : (rule : Rule) (r : List ℕ) → refused rule r ≡ word WrongCell quote (tt {0}) (drop (at + k) t) → refused rule r ≡ read_quoted string_bytes (drop at t)
+  quoted_wrong rule r e = ap (λ z. bind z (λ (_ : Unit {0}) r. taken (take k (drop at t)) r)) e ∙ quoted_here
 
 -- A word, byte by byte: what is left of it, read from here, gives the whole answer x.
 module _ (rule : Rule) (w : List ℕ) (i : ℕ) (s : List ℕ) (x : Reading (Unit {0})) (here : i < length w) (whole : word rule (drop i w) (tt {0}) s ≡ x) where
@@ -94,8 +80,3 @@ pub boolean_by : (s : List ℕ) (x : Bool) → next 116 (first s) ≡ x → (y :
     bind y (λ (_ : Unit {0}) r. taken x r) ≡ read_boolean s
 boolean_by s true h y e = ap (λ z. bind z (λ (_ : Unit {0}) r. taken true r)) e ∙ (sym (word_as WrongCell (codes "true") true s) ∙ sym (ap (λ z. cond z (word WrongCell (codes "true") true s) (word WrongCell (codes "false") false s)) h))
 boolean_by s false h y e = ap (λ z. bind z (λ (_ : Unit {0}) r. taken false r)) e ∙ (sym (word_as WrongCell (codes "false") false s) ∙ sym (ap (λ z. cond z (word WrongCell (codes "true") true s) (word WrongCell (codes "false") false s)) h))
-
--- a list with an element, by its first and the others
-pub cut_one : (s : List ℕ) → 1 ≤ length s → s ≡ get_or s 0 0 ∷ take (length s - 1) (drop 1 s)
-cut_one [] h = absurd (omega arith)
-cut_one (a ∷ s) h = ap (λ l. a ∷ l) (sym (take_rest (a ∷ s) 1))

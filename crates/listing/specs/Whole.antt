@@ -3,6 +3,7 @@ use Rattle.std.specs.Prelude.{◌≡◌, ℕ, ◌-◌, cond, ◌↔◌, List, �
 use Rattle.fault.specs.declared.rules.Fault.{Fault}
 use Rattle.fault.specs.declared.rules.Rule.TheVariants.{TextTooLong}
 use Rattle.fault.specs.Limits.{text_bytes}
+use Rattle.fault.specs.Places.{nowhere}
 use Rattle.schema.specs.Columns.{Column}
 use Rattle.texts.specs.Readers.{Reading, Reading.taken, Reading.refused}
 use Rattle.texts.specs.Language.{Value, TableText}
@@ -12,7 +13,7 @@ use Rattle.texts.specs.Layers.{TableLayer}
 use Rattle.listing.specs.Seen.{fault_at}
 
 abbrev pub too_long : Fault
-too_long = record { rule = TextTooLong; line = 0; byte = 0 }
+too_long = record { rule = TextTooLong; place = nowhere }
 
 -- how many rows were read
 abbrev pub counted : {A : Type 0} → Reading (List A) → Reading ℕ

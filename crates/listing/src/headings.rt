@@ -5,7 +5,7 @@ ghost use Rattle.fault.specs.declared.rules.Rule.TheVariants.{WrongHeading};
 ghost use Rattle.schema.specs.Columns.{column_of, schema_of};
 ghost use Rattle.texts.specs.Readers.{word, entries};
 ghost use Rattle.texts.specs.Reading.{read_name, read_column, read_heading};
-ghost use Rattle.listing.specs.Seen.{rest, seen, AtFault, passed, column_behind};
+ghost use Rattle.listing.specs.Seen.{Reads, passed, column_behind};
 
 use crate::names::{letter_byte, title};
 use crate::reader::Reader;
@@ -15,9 +15,7 @@ use schema::{Attribute, Schema};
 impl<'a> Reader<'a> {
     // A column's name or `?`; a column without a name is `?`.
     fn name(&mut self, name: Option<&[u8]>) -> Result<(), Fault>
-        ensures value { seen self.new result ≡ read_name (bytes_of name.entry) (rest self.old) }
-        ensures place { AtFault self.new result }
-        ensures same { self.new.text.now ≡ self.old.text.now }
+        ensures { Reads (read_name (bytes_of name.entry)) self.old self.new result }
     {
         match name {
             None => self.byte(Rule::WrongHeading, b'?'),
@@ -32,9 +30,7 @@ impl<'a> Reader<'a> {
 
     // A column: its name, a colon and the letter of its domain.
     fn column(&mut self, attribute: Attribute, script: &[u8]) -> Result<(), Fault>
-        ensures value { seen self.new result ≡ read_column (column_of script.now attribute) (rest self.old) }
-        ensures place { AtFault self.new result }
-        ensures same { self.new.text.now ≡ self.old.text.now }
+        ensures { Reads (read_column (column_of script.now attribute)) self.old self.new result }
     {
         self.name(title(attribute, script))?;
         self.byte(Rule::WrongHeading, b':')?;
@@ -48,9 +44,7 @@ impl<'a> Reader<'a> {
         attribute: Attribute,
         script: &[u8],
     ) -> Result<(), Fault>
-        ensures value { seen self.new result ≡ column_behind separator.now (column_of script.now attribute) (rest self.old) }
-        ensures place { AtFault self.new result }
-        ensures same { self.new.text.now ≡ self.old.text.now }
+        ensures { Reads (column_behind separator.now (column_of script.now attribute)) self.old self.new result }
     {
         self.word(Rule::WrongHeading, separator)?;
         self.column(attribute, script)
@@ -58,9 +52,7 @@ impl<'a> Reader<'a> {
 
     // The columns with commas between them, and the end of the line.
     fn columns(&mut self, attributes: &[Attribute], script: &[u8]) -> Result<(), Fault>
-        ensures value { seen self.new result ≡ passed (entries WrongHeading read_column [] (map (column_of script.now) attributes.now) (rest self.old)) }
-        ensures place { AtFault self.new result }
-        ensures same { self.new.text.now ≡ self.old.text.now }
+        ensures { Reads (λ s. passed (entries WrongHeading read_column [] (map (column_of script.now) attributes.now) s)) self.old self.new result }
     {
         let mut separator: &[u8] = b"";
         for attribute in attributes {
@@ -72,9 +64,7 @@ impl<'a> Reader<'a> {
 
     // The heading's line, for this schema: its columns one by one, `?` for any of them.
     pub fn heading(&mut self, schema: &Schema, script: &[u8]) -> Result<(), Fault>
-        ensures value { seen self.new result ≡ passed (read_heading (schema_of script.now schema.now) (rest self.old)) }
-        ensures place { AtFault self.new result }
-        ensures same { self.new.text.now ≡ self.old.text.now }
+        ensures { Reads (λ s. passed (read_heading (schema_of script.now schema.now) s)) self.old self.new result }
     {
         self.byte(Rule::WrongHeading, b'(')?;
         self.columns(schema.attributes(), script)

@@ -1,36 +1,23 @@
 // Names as headings show them. Bytes that are no name, as a foreign script may bring, count as none.
 ghost use Rattle.std.specs.Prelude.{◌≡◌, ◌≤◌, length, IfSome};
 ghost use Rattle.fault.specs.Limits.{name_bytes};
+ghost use Rattle.std.specs.List.{list_all};
+ghost use Rattle.words.specs.Letters.{name_byte};
 ghost use Rattle.words.specs.Spans.{bytes_of};
 ghost use Rattle.domain.specs.Domains.{letter_of};
-ghost use Rattle.texts.specs.Language.{letter, name_byte, all_name_bytes, is_name};
+ghost use Rattle.texts.specs.Language.{is_name};
 ghost use Rattle.listing.specs.Seen.{title_of};
 
 use domain::Domain;
 use fault::limits::NAME_BYTES;
 use schema::Attribute;
 
-fn is_letter(b: u8) -> bool
-    ensures { result ≡ letter b }
-{
-    (b >= b'A' && b <= b'Z') || (b >= b'a' && b <= b'z')
-}
-
-fn is_name_byte(b: u8) -> bool
-    ensures { result ≡ name_byte b }
-{
-    is_letter(b) || (b >= b'0' && b <= b'9') || b == b'_'
-}
-
 fn all_name_bytes(bytes: &[u8]) -> bool
-    ensures { result ≡ all_name_bytes bytes.now }
+    ensures { result ≡ list_all name_byte bytes.now }
 {
-    for b in bytes {
-        if !is_name_byte(*b) {
-            return false;
-        }
-    }
-    true
+    bytes
+        .iter()
+        .all(|b| b.is_ascii_alphanumeric() || *b == b'_')
 }
 
 // A letter, then letters, digits and underscores, at most `NAME_BYTES` in all.
@@ -38,7 +25,7 @@ pub fn is_name(bytes: &[u8]) -> bool
     ensures { result ≡ is_name bytes.now }
 {
     match bytes {
-        [first, others @ ..] => is_letter(*first)
+        [first, others @ ..] => first.is_ascii_alphabetic()
             && all_name_bytes(others)
             && others.len() < NAME_BYTES,
         [] => false,
@@ -50,11 +37,7 @@ pub fn title<'a>(attribute: Attribute, script: &'a [u8]) -> Option<&'a [u8]>
     ensures value { bytes_of result ≡ title_of script.now attribute }
     ensures short { IfSome result (λ n. length n.now ≤ name_bytes) }
 {
-    let name = attribute.name(script)?;
-    if is_name(name) {
-        return Some(name);
-    }
-    None
+    attribute.name(script).filter(|name| is_name(name))
 }
 
 // The letter of a domain, as a byte of a line.

@@ -4,11 +4,11 @@ ghost use Rattle.std.specs.Prelude.{◌≡◌, ◌+◌, ◌<◌, ◌≤◌, [], 
 ghost use Rattle.fault.specs.Limits.{text_bytes};
 ghost use Rattle.texts.specs.Readers.{first, word};
 ghost use Rattle.texts.specs.Reading.{next};
-ghost use Rattle.listing.specs.Seen.{rest, line_of, fault_at, seen, AtFault};
+ghost use Rattle.listing.specs.Seen.{rest, line_of, place_at, fault_at, Reads};
 
 use crate::reader::Reader;
 use fault::limits::TEXT_BYTES;
-use fault::{Fault, Rule};
+use fault::{Fault, Place, Rule};
 
 // One more than the line feeds before a place.
 fn line_of(text: &[u8], at: usize) -> u32
@@ -16,13 +16,8 @@ fn line_of(text: &[u8], at: usize) -> u32
     requires short { length text.now ≤ text_bytes }
     ensures { result ≡ line_of text.now at }
 {
-    let mut line: u32 = 1;
-    for b in &text[0..at] {
-        if *b == b'\n' {
-            line += 1;
-        }
-    }
-    line
+    let feeds = text[..at].iter().filter(|b| **b == b'\n').count();
+    feeds as u32 + 1
 }
 
 impl<'a> Reader<'a> {
@@ -31,32 +26,33 @@ impl<'a> Reader<'a> {
         ensures text { result.text.now ≡ take text_bytes text.now }
         ensures start { result.at ≡ 0 }
     {
-        if text.len() > TEXT_BYTES {
-            return Reader {
-                text: &text[0..TEXT_BYTES],
-                at: 0,
-            };
+        Reader {
+            text: &text[..TEXT_BYTES.min(text.len())],
+            at: 0,
         }
-        Reader { text, at: 0 }
     }
 
     // The byte that comes next, if there is one.
     pub(crate) fn peek(&self) -> Option<u8>
         ensures ahead { MatchOption result (rest self.now ≡ []) (λ b. (self.now.at < length self.now.text.now) × (rest self.now ≡ b ∷ drop (self.now.at + 1) self.now.text.now)) }
     {
-        if self.at < self.text.len() {
-            return Some(self.text[self.at]);
-        }
-        None
+        self.text.get(self.at).copied()
     }
 
     // Whether this byte comes next.
     pub(crate) fn next_is(&self, b: u8) -> bool
         ensures { result ≡ next b (first (rest self.now)) }
     {
-        match self.peek() {
-            Some(c) => c == b,
-            None => false,
+        self.peek() == Some(b)
+    }
+
+    // The place of what comes next.
+    fn place(&self) -> Place
+        ensures { result ≡ place_at self.now.text.now self.now.at }
+    {
+        Place {
+            line: line_of(self.text, self.at),
+            byte: self.at as u32,
         }
     }
 
@@ -64,36 +60,25 @@ impl<'a> Reader<'a> {
     pub(crate) fn refuse(&self, rule: Rule) -> Fault
         ensures { result ≡ fault_at rule self.now.text.now self.now.at }
     {
-        Fault {
-            rule,
-            line: line_of(self.text, self.at),
-            byte: self.at as u32,
-        }
+        self.place().fault(rule)
     }
 
     // The byte that has to come next.
     pub(crate) fn byte(&mut self, rule: Rule, wanted: u8) -> Result<(), Fault>
-        ensures value { seen self.new result ≡ word rule (wanted ∷ []) tt (rest self.old) }
-        ensures place { AtFault self.new result }
-        ensures same { self.new.text.now ≡ self.old.text.now }
+        ensures { Reads (word rule (wanted ∷ []) tt) self.old self.new result }
     {
         match self.peek() {
-            Some(b) => {
-                if b != wanted {
-                    return Err(self.refuse(rule));
-                }
+            Some(b) if b == wanted => {
                 self.at += 1;
                 Ok(())
             }
-            None => Err(self.refuse(rule)),
+            _ => Err(self.refuse(rule)),
         }
     }
 
     // Bytes that have to come next.
     pub(crate) fn word(&mut self, rule: Rule, wanted: &[u8]) -> Result<(), Fault>
-        ensures value { seen self.new result ≡ word rule wanted.now tt (rest self.old) }
-        ensures place { AtFault self.new result }
-        ensures same { self.new.text.now ≡ self.old.text.now }
+        ensures { Reads (word rule wanted.now tt) self.old self.new result }
     {
         for b in wanted {
             self.byte(rule, *b)?;

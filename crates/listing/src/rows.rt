@@ -6,7 +6,7 @@ ghost use Rattle.schema.specs.Columns.{held};
 ghost use Rattle.texts.specs.Language.{ending};
 ghost use Rattle.texts.specs.Readers.{first, after, word, finish, entries};
 ghost use Rattle.texts.specs.Reading.{next, read_value, read_row, read_atom};
-ghost use Rattle.listing.specs.Seen.{rest, seen, seen_as, AtFault, value_in, values_in, value_behind, domains_of};
+ghost use Rattle.listing.specs.Seen.{rest, ReadsAs, Reads, value_in, values_in, value_behind, domains_of};
 
 use crate::cell::Cell;
 use crate::reader::Reader;
@@ -18,9 +18,7 @@ use schema::{Attribute, Schema};
 impl<'a> Reader<'a> {
     // A value behind what separates it from the one before.
     fn further_value(&mut self, separator: &[u8], domain: Domain) -> Result<Cell, Fault>
-        ensures value { seen_as value_in self.new result ≡ value_behind separator.now domain (rest self.old) }
-        ensures place { AtFault self.new result }
-        ensures same { self.new.text.now ≡ self.old.text.now }
+        ensures { ReadsAs value_in (value_behind separator.now domain) self.old self.new result }
     {
         self.word(Rule::WrongRow, separator)?;
         self.value(domain)
@@ -29,16 +27,12 @@ impl<'a> Reader<'a> {
     // The values with commas between them, and the end of the line.
     fn values(&mut self, attributes: &[Attribute]) -> Result<[Cell; COLUMNS], Fault>
         requires { length attributes.now ≤ columns }
-        ensures value { seen_as (values_in (length attributes.now)) self.new result ≡ entries WrongRow read_value [] (domains_of attributes.now) (rest self.old) }
-        ensures place { AtFault self.new result }
-        ensures same { self.new.text.now ≡ self.old.text.now }
+        ensures { ReadsAs (values_in (length attributes.now)) (entries WrongRow read_value [] (domains_of attributes.now)) self.old self.new result }
     {
         let mut cells = [Cell::Integer(0); COLUMNS];
-        let mut count: usize = 0;
         let mut separator: &[u8] = b"";
-        for attribute in attributes {
-            cells[count] = self.further_value(separator, attribute.domain)?;
-            count += 1;
+        for (i, attribute) in attributes.iter().enumerate() {
+            cells[i] = self.further_value(separator, attribute.domain)?;
             separator = b",";
         }
         self.word(Rule::WrongRow, b")\n")?;
@@ -47,9 +41,7 @@ impl<'a> Reader<'a> {
 
     // A row's line, for this schema: the first cells are its values.
     pub fn row(&mut self, schema: &Schema) -> Result<[Cell; COLUMNS], Fault>
-        ensures value { seen_as (values_in (length (held schema.now))) self.new result ≡ read_row (domains_of (held schema.now)) (rest self.old) }
-        ensures place { AtFault self.new result }
-        ensures same { self.new.text.now ≡ self.old.text.now }
+        ensures { ReadsAs (values_in (length (held schema.now))) (read_row (domains_of (held schema.now))) self.old self.new result }
     {
         self.byte(Rule::WrongRow, b'(')?;
         self.values(schema.attributes())
@@ -57,9 +49,7 @@ impl<'a> Reader<'a> {
 
     // The text's end.
     fn finish(&mut self) -> Result<(), Fault>
-        ensures value { seen self.new result ≡ finish WrongRow tt (rest self.old) }
-        ensures place { AtFault self.new result }
-        ensures same { self.new.text.now ≡ self.old.text.now }
+        ensures { Reads (finish WrongRow tt) self.old self.new result }
     {
         match self.peek() {
             None => Ok(()),
@@ -76,9 +66,7 @@ impl<'a> Reader<'a> {
 
     // `end`, and the text's end.
     pub fn end(&mut self) -> Result<(), Fault>
-        ensures value { seen self.new result ≡ after (word WrongRow ending tt) (λ (_ : Unit {0}). finish WrongRow tt) (rest self.old) }
-        ensures place { AtFault self.new result }
-        ensures same { self.new.text.now ≡ self.old.text.now }
+        ensures { Reads (after (word WrongRow ending tt) (λ (_ : Unit {0}). finish WrongRow tt)) self.old self.new result }
     {
         self.word(Rule::WrongRow, b"end\n")?;
         self.finish()
@@ -86,9 +74,7 @@ impl<'a> Reader<'a> {
 
     // An atom's line, and the text's end.
     pub fn atom(&mut self, domain: Domain) -> Result<Cell, Fault>
-        ensures value { seen_as value_in self.new result ≡ read_atom domain (rest self.old) }
-        ensures place { AtFault self.new result }
-        ensures same { self.new.text.now ≡ self.old.text.now }
+        ensures { ReadsAs value_in (read_atom domain) self.old self.new result }
     {
         let cell = self.value(domain)?;
         self.byte(Rule::WrongRow, b'\n')?;

@@ -1,9 +1,10 @@
 // The readers of values. What they refuse is a wrong cell.
-ghost use Rattle.std.specs.Prelude.{◌≡◌, ◌≤◌, pos, neg_ℤ, IfOk};
+ghost use Rattle.std.specs.Prelude.{◌≡◌, ◌≤◌, length, take, pos, neg_ℤ, IfOk};
 ghost use Rattle.fault.specs.Limits.{string_bytes};
+ghost use Rattle.words.specs.Letters.{plain, run};
 ghost use Rattle.texts.specs.Language.{most, least};
 ghost use Rattle.texts.specs.Reading.{further, read_count, apart, read_integer, read_quoted, read_string, read_boolean, read_value};
-ghost use Rattle.listing.specs.Seen.{rest, seen, seen_as, AtFault, part, value_in};
+ghost use Rattle.listing.specs.Seen.{ReadsAs, Reads, part, value_in};
 
 use crate::cell::Cell;
 use crate::reader::Reader;
@@ -18,7 +19,19 @@ fn negated(size: u64) -> i64
     requires small { size ≤ least }
     ensures { result ≡ neg_ℤ (pos size) }
 {
-    -1 - (size - 1) as i64
+    0i64.saturating_sub_unsigned(size)
+}
+
+// How many bytes at the front may stand in a string, as far as a string goes.
+fn plain_length(bytes: &[u8]) -> usize
+    ensures within { result ≤ length bytes.now }
+    ensures few { result ≤ string_bytes }
+    ensures value { result ≡ run plain (take string_bytes bytes.now) }
+{
+    let few = &bytes[..STRING_BYTES.min(bytes.len())];
+    few.iter()
+        .position(|b| *b < b' ' || *b == b'"' || *b == 127)
+        .unwrap_or(few.len())
 }
 
 impl<'a> Reader<'a> {
@@ -27,16 +40,14 @@ impl<'a> Reader<'a> {
         requires begun { first ≤ limit }
         requires large { 9 ≤ limit }
         ensures bounds { IfOk result (λ n. (first ≤ n) × (n ≤ limit)) }
-        ensures value { seen self.new result ≡ further limit first (rest self.old) }
-        ensures place { AtFault self.new result }
-        ensures same { self.new.text.now ≡ self.old.text.now }
+        ensures reads { Reads (further limit first) self.old self.new result }
     {
         let mut number = first;
         while let Some(b) = self.peek() {
-            if b < b'0' || b > b'9' {
+            if !b.is_ascii_digit() {
                 return Ok(number);
             }
-            let digit = (b - b'0') as u64;
+            let digit = u64::from(b - b'0');
             if number > (limit - digit) / 10 {
                 return Err(self.refuse(Rule::WrongCell));
             }
@@ -50,41 +61,30 @@ impl<'a> Reader<'a> {
     fn count(&mut self, limit: u64) -> Result<u64, Fault>
         requires { 9 ≤ limit }
         ensures bounds { IfOk result (λ n. (1 ≤ n) × (n ≤ limit)) }
-        ensures value { seen self.new result ≡ read_count limit (rest self.old) }
-        ensures place { AtFault self.new result }
-        ensures same { self.new.text.now ≡ self.old.text.now }
+        ensures reads { Reads (read_count limit) self.old self.new result }
     {
         match self.peek() {
-            Some(b) => {
-                if b < b'1' || b > b'9' {
-                    return Err(self.refuse(Rule::WrongCell));
-                }
+            Some(b @ b'1'..=b'9') => {
                 self.at += 1;
-                self.further_digits(limit, (b - b'0') as u64)
+                self.further_digits(limit, u64::from(b - b'0'))
             }
-            None => Err(self.refuse(Rule::WrongCell)),
+            _ => Err(self.refuse(Rule::WrongCell)),
         }
     }
 
     // No digit may come next.
     fn apart(&mut self, value: i64) -> Result<i64, Fault>
-        ensures value { seen self.new result ≡ apart value (rest self.old) }
-        ensures place { AtFault self.new result }
-        ensures same { self.new.text.now ≡ self.old.text.now }
+        ensures { Reads (apart value) self.old self.new result }
     {
-        if let Some(b) = self.peek() {
-            if b >= b'0' && b <= b'9' {
-                return Err(self.refuse(Rule::WrongCell));
-            }
+        match self.peek() {
+            Some(b'0'..=b'9') => Err(self.refuse(Rule::WrongCell)),
+            _ => Ok(value),
         }
-        Ok(value)
     }
 
     // An integer without needless zeros, plus or `-0`.
     fn integer(&mut self) -> Result<i64, Fault>
-        ensures value { seen self.new result ≡ read_integer (rest self.old) }
-        ensures place { AtFault self.new result }
-        ensures same { self.new.text.now ≡ self.old.text.now }
+        ensures { Reads read_integer self.old self.new result }
     {
         match self.peek() {
             Some(b'-') => {
@@ -105,35 +105,21 @@ impl<'a> Reader<'a> {
 
     // What comes before the closing quote, at most `STRING_BYTES` bytes.
     fn quoted(&mut self) -> Result<Span, Fault>
-        ensures value { seen_as part self.new result ≡ read_quoted string_bytes (rest self.old) }
-        ensures place { AtFault self.new result }
-        ensures same { self.new.text.now ≡ self.old.text.now }
+        ensures { ReadsAs part (read_quoted string_bytes) self.old self.new result }
     {
         let start = self.at;
-        let mut left: usize = STRING_BYTES;
-        while let Some(b) = self.peek() {
-            if b == b'"' {
-                let inside = Span {
-                    start: start as u16,
-                    len: (self.at - start) as u8,
-                };
-                self.at += 1;
-                return Ok(inside);
-            }
-            if left == 0 || b < b' ' || b == 127 {
-                return Err(self.refuse(Rule::WrongCell));
-            }
-            left -= 1;
-            self.at += 1;
-        }
-        Err(self.refuse(Rule::WrongCell))
+        let inside = plain_length(&self.text[start..]);
+        self.at += inside;
+        self.byte(Rule::WrongCell, b'"')?;
+        Ok(Span {
+            start: start as u16,
+            len: inside as u8,
+        })
     }
 
     // A string in quotes.
     fn string(&mut self) -> Result<Span, Fault>
-        ensures value { seen_as part self.new result ≡ read_string (rest self.old) }
-        ensures place { AtFault self.new result }
-        ensures same { self.new.text.now ≡ self.old.text.now }
+        ensures { ReadsAs part read_string self.old self.new result }
     {
         self.byte(Rule::WrongCell, b'"')?;
         self.quoted()
@@ -141,9 +127,7 @@ impl<'a> Reader<'a> {
 
     // `true` or `false`.
     fn boolean(&mut self) -> Result<bool, Fault>
-        ensures value { seen self.new result ≡ read_boolean (rest self.old) }
-        ensures place { AtFault self.new result }
-        ensures same { self.new.text.now ≡ self.old.text.now }
+        ensures { Reads read_boolean self.old self.new result }
     {
         if self.next_is(b't') {
             self.word(Rule::WrongCell, b"true")?;
@@ -155,9 +139,7 @@ impl<'a> Reader<'a> {
 
     // A value of the domain.
     pub(crate) fn value(&mut self, domain: Domain) -> Result<Cell, Fault>
-        ensures value { seen_as value_in self.new result ≡ read_value domain (rest self.old) }
-        ensures place { AtFault self.new result }
-        ensures same { self.new.text.now ≡ self.old.text.now }
+        ensures { ReadsAs value_in (read_value domain) self.old self.new result }
     {
         match domain {
             Domain::Integer => Ok(Cell::Integer(self.integer()?)),

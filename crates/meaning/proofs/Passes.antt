@@ -125,10 +125,6 @@ counted_name : (n : ℕ) (s : Option Term) (vars : List Datum) (f : Option Bytes
 counted_name n none vars f h = h none
 counted_name n (some t) vars f h = counted_value n (evaluate t vars []) _ (λ d. h (some (name_in (value_in d))))
 
-stays_name : (s : Option Term) (vars : List Datum) (f g : Option Bytes → Ran) → ((name : Option Bytes) → Stays (f name) (g name)) → Stays (with_name s vars f) (with_name s vars g)
-stays_name none vars f g h = h none
-stays_name (some t) vars f g h = stays_value (evaluate t vars []) _ _ (λ d. h (some (name_in (value_in d))))
-
 lacking_counted : (n : ℕ) → Counted n (ran [] 0 without_text)
 lacking_counted n = record { within = omega arith; used = λ e. let z : ◌≡◌ {A = ℕ} 0 1 = cc in absurd (omega arith) }
 

@@ -1,10 +1,5 @@
-// How settling moves cells, and how the directory learns where the tables then begin.
+// How settling moves cells.
 ghost use Rattle.std.specs.Prelude.{◌≡◌, ◌+◌, ◌≤◌, List, ◌++◌, length, ℤ};
-ghost use Rattle.fault.specs.Limits.{cells as cell_limit};
-ghost use Rattle.directory.specs.Run.{extent};
-ghost use Rattle.packed.specs.Starts.{restarted};
-
-use directory::Entry;
 
 // The last `moved` cells go to `from`, and the `gone` cells that stood there to the end.
 pub(crate) fn settle_cells(cells: &mut [i64], from: usize, gone: usize, moved: usize)
@@ -22,21 +17,4 @@ fn swap_rest(cells: &mut [i64], from: usize, size: usize)
     ensures { (front first second : List ℤ) → cells.old ≡ front ++ (first ++ second) → length front ≡ from → length first ≡ size → cells.new ≡ front ++ (second ++ first) }
 {
     cells[from..].rotate_left(size);
-}
-
-// Sets where each table begins: one after the other, from the first cell on.
-pub(crate) fn restart(tables: &mut [Entry])
-    requires { extent tables.old ≤ cell_limit }
-    ensures { tables.new ≡ restarted 0 tables.old }
-{
-    let mut at = 0;
-    for i in 0..tables.len() {
-        let entry = tables[i];
-        tables[i] = Entry {
-            first: at,
-            width: entry.width,
-            count: entry.count,
-        };
-        at += entry.count * entry.width;
-    }
 }

@@ -1,15 +1,15 @@
 // The packed store's fields, what always holds of them, and the calls.
 ghost use Rattle.std.specs.Prelude.{◌≡◌, ◌≤◌, min, true, [], length, IfOk, vec_capacity};
-ghost use Rattle.fault.specs.Limits.{cells as cell_limit, tables as table_limit};
+ghost use Rattle.fault.specs.Limits.{cells as cell_limit};
 ghost use Rattle.store.specs.Sound.{sound_tables};
 ghost use Rattle.directory.specs.Run.{laid, extent, decode};
-ghost use Rattle.packed.specs.Starts.{starts};
+ghost use Rattle.directory.specs.Starts.{starts};
 ghost use Rattle.directory.proofs.Questions.{laid_sound};
 
-use crate::moves::{restart, settle_cells};
+use crate::moves::settle_cells;
 use crate::searches::has_row;
-use directory::Entry;
-use fault::limits::{CELLS, COLUMNS, TABLES};
+use directory::{Directory, Entry};
+use fault::limits::{CELLS, COLUMNS};
 use fault::{Fault, Rule};
 use std::alloc::{AllocError, Global};
 use store::{RowStore, refuse};
@@ -17,29 +17,27 @@ use store::{RowStore, refuse};
 #[derive(Drop)]
 pub struct Packed {
     capacity: u16,
-    tables: Vec<Entry>,
+    tables: Directory<Entry>,
     cells: Vec<i64>,
     // what the store stands for is sound
-    ghost sound: { sound_tables (decode tables.items cells.items) ≡ true },
+    ghost sound: { sound_tables (decode tables.entries.items cells.items) ≡ true },
     // the run has the cells of the tables and no others
-    ghost full: { extent tables.items ≡ length cells.items },
+    ghost full: { extent tables.entries.items ≡ length cells.items },
     // each entry knows where its table begins
-    ghost begun: { starts 0 tables.items ≡ true },
+    ghost begun: { starts 0 tables.entries.items ≡ true },
     ghost within: { length cells.items ≤ capacity },
     ghost small: { capacity ≤ cell_limit },
-    ghost few: { length tables.items ≤ table_limit },
     // what was reserved when the store was made suffices for ever
     ghost room: { capacity ≤ vec_capacity cells },
-    ghost places: { table_limit ≤ vec_capacity tables },
 }
 
 impl Packed {
     // A store without tables, over `size` cells or as many as a store may have. Nothing else allocates.
     pub fn new(heap: Global, size: usize) -> Result<Packed, AllocError>
-        ensures { IfOk result (λ p. laid p.capacity p.tables.items p.cells.items ≡ record { capacity = min size cell_limit; tables = [] }) }
+        ensures { IfOk result (λ p. laid p.capacity p.tables.entries.items p.cells.items ≡ record { capacity = min size cell_limit; tables = [] }) }
     {
-        let capacity = if size < CELLS { size } else { CELLS };
-        let tables = Vec::with_capacity(heap, TABLES)?;
+        let capacity = size.min(CELLS);
+        let tables = Directory::new(heap)?;
         let cells = Vec::with_capacity(heap, capacity)?;
         Ok(Packed {
             capacity: capacity as u16,
@@ -50,9 +48,9 @@ impl Packed {
 }
 
 impl RowStore for Packed {
-    ghost meaning = { λ p. laid p.capacity p.tables.items p.cells.items };
+    ghost meaning = { λ p. laid p.capacity p.tables.entries.items p.cells.items };
 
-    ghost sound = { λ p. laid_sound p.capacity p.tables.items p.cells.items (record { sound = p.sound; full = p.full; within = p.within; small = p.small; few = p.few }) };
+    ghost sound = { λ p. laid_sound p.capacity p.tables.entries.items p.cells.items (record { sound = p.sound; full = p.full; within = p.within; small = p.small; few = p.tables.few }) };
 
     fn capacity(&self) -> u16 {
         self.capacity
@@ -63,31 +61,19 @@ impl RowStore for Packed {
     }
 
     fn table_count(&self) -> u16 {
-        self.tables.len() as u16
+        self.tables.table_count()
     }
 
     fn width(&self, table: u16) -> Result<u16, Fault> {
-        let place = table as usize;
-        if place >= self.tables.len() {
-            return Err(refuse(Rule::NoSuchPlace));
-        }
-        Ok(self.tables[place].width)
+        Ok(self.tables.entry(table)?.width)
     }
 
     fn row_count(&self, table: u16) -> Result<u16, Fault> {
-        let place = table as usize;
-        if place >= self.tables.len() {
-            return Err(refuse(Rule::NoSuchPlace));
-        }
-        Ok(self.tables[place].count)
+        Ok(self.tables.entry(table)?.count)
     }
 
     fn cell(&self, table: u16, row: u16, column: u16) -> Result<i64, Fault> {
-        let place = table as usize;
-        if place >= self.tables.len() {
-            return Err(refuse(Rule::NoSuchPlace));
-        }
-        let entry = self.tables[place];
+        let entry = self.tables.entry(table)?;
         if row >= entry.count || column >= entry.width {
             return Err(refuse(Rule::NoSuchPlace));
         }
@@ -95,30 +81,19 @@ impl RowStore for Packed {
     }
 
     fn open(&mut self, width: u16) -> Result<(), Fault> {
-        if self.tables.len() >= TABLES {
-            return Err(refuse(Rule::TooManyTables));
-        }
-        let wide = width as usize;
-        if wide < 1 || wide > COLUMNS {
-            return Err(refuse(Rule::WidthOutside));
-        }
         let first = self.cells.len() as u16;
-        self.tables.push_reserved(Entry {
+        let entry = Entry {
             first,
             width,
             count: 0,
-        });
-        Ok(())
+        };
+        self.tables.open(width, entry)
     }
 
     fn add(&mut self, row: &[i64; COLUMNS]) -> Result<(), Fault> {
-        let count = self.tables.len();
-        if count == 0 {
-            return Err(refuse(Rule::NoSuchPlace));
-        }
-        let last = self.tables[count - 1];
+        let last = self.tables.last()?;
         let width = last.width as usize;
-        let new = &row[0..width];
+        let new = &row[..width];
         if has_row(&self.cells, last.first as usize, last.count as usize, new) {
             return Ok(());
         }
@@ -126,30 +101,22 @@ impl RowStore for Packed {
             return Err(refuse(Rule::NoCellsLeft));
         }
         let _ = self.cells.extend_from_slice(new);
-        self.tables[count - 1] = Entry {
-            first: last.first,
-            width: last.width,
+        self.tables.replace_last(Entry {
             count: last.count + 1,
-        };
+            ..last
+        });
         Ok(())
     }
 
     fn drop_last(&mut self) -> Result<(), Fault> {
-        let Some(last) = self.tables.pop() else {
-            return Err(refuse(Rule::NoSuchPlace));
-        };
+        let last = self.tables.pop()?;
         self.cells.truncate(last.first as usize);
         Ok(())
     }
 
     fn settle(&mut self, table: u16) -> Result<(), Fault> {
-        let place = table as usize;
-        let count = self.tables.len();
-        if place + 1 >= count {
-            return Err(refuse(Rule::NoSuchPlace));
-        }
-        let old = self.tables[place];
-        let last = self.tables[count - 1];
+        let last = self.tables.last()?;
+        let old = self.tables.settle(table)?;
         let gone = old.cells();
         let kept = self.cells.len() - gone;
         // the last table's rows to where the old ones stood, the old ones to the end, and off
@@ -160,9 +127,7 @@ impl RowStore for Packed {
             last.cells(),
         );
         self.cells.truncate(kept);
-        self.tables.truncate(count - 1);
-        self.tables[place] = last;
-        restart(self.tables.as_mut_slice());
+        self.tables.restart();
         Ok(())
     }
 }

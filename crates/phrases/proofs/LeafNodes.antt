@@ -37,34 +37,34 @@ says_is : (ns : List Node) (i : ℕ) (w v : What) (p : Place) → Some w ≡ Som
 says_is ns i w v p e h = let z : w ≡ v = cc in subst (λ j. Says ns i j p) z h
 
 name_held : (text : Bytes) (ns : List Node) (i : ℕ) (x : Bytes) (p : Place) (w : What) → length text ≤ script_bytes → Spells text p.byte name_bytes x → Some w ≡ Some (what.Name (span_of p.byte x)) →
-    Says ns i w p → (node_at ns i).next ≡ 0 → Held (leaf_level name_leaf) text ns i (suc i) i (name_part (named x p))
+    Says ns i w p → (node_at ns i).next ≡ None → Held (leaf_level name_leaf) text ns i (suc i) i (name_part (named x p))
 unfolding Held
 name_held text ns i x p w g t e h n = (i, refl, ((refl, span_of p.byte x, says_is ns i w _ p e h, span_part text x p.byte name_bytes g (omega arith) t), refl, n))
 
 type_held : (text : Bytes) (ns : List Node) (i : ℕ) (d : Domain) (p : Place) (w : What) → Some w ≡ Some (what.AtomicType d) →
-    Says ns i w p → (node_at ns i).next ≡ 0 → Held (leaf_level type_leaf) text ns i (suc i) i (type_part (typed d p))
+    Says ns i w p → (node_at ns i).next ≡ None → Held (leaf_level type_leaf) text ns i (suc i) i (type_part (typed d p))
 unfolding Held
 type_held text ns i d p w e h n = ((i, refl, ((refl, says_is ns i w _ p e h), refl, n)), refl)
 
 integer_held : (text : Bytes) (ns : List Node) (i : ℕ) (x : Bytes) (p : Place) (w : What) → value_of x ≤ integer_max → Some w ≡ Some (what.Integer (integer_of x)) →
-    Says ns i w p → (node_at ns i).next ≡ 0 → Held (leaf_level constant_leaf) text ns i (suc i) i (constant_part (integer_constant (pos (value_of x)) p))
+    Says ns i w p → (node_at ns i).next ≡ None → Held (leaf_level constant_leaf) text ns i (suc i) i (constant_part (integer_constant (pos (value_of x)) p))
 unfolding Held
 integer_held text ns i x p w t e h n =
     (i, refl, ((refl, subst (λ v. Says ns i (what.Integer (pos v)) p) (within_is integer_max (value_of x) t) (says_is ns i w _ p e h)), refl, n))
 
 string_held : (text : Bytes) (ns : List Node) (i : ℕ) (x : Bytes) (p : Place) (w : What) → length text ≤ script_bytes → Spells text (p.byte + 1) string_bytes x → Some w ≡ Some (what.Text (span_of (p.byte + 1) x)) →
-    Says ns i w p → (node_at ns i).next ≡ 0 → Held (leaf_level constant_leaf) text ns i (suc i) i (constant_part (string_constant x p))
+    Says ns i w p → (node_at ns i).next ≡ None → Held (leaf_level constant_leaf) text ns i (suc i) i (constant_part (string_constant x p))
 unfolding Held
 string_held text ns i x p w g t e h n = (i, refl, ((refl, span_of (p.byte + 1) x, says_is ns i w _ p e h, span_part text x (p.byte + 1) string_bytes g (omega arith) t), refl, n))
 
 truth_held : (text : Bytes) (ns : List Node) (i : ℕ) (b : Bool) (p : Place) (w : What) → Some w ≡ Some (what.Truth b) →
-    Says ns i w p → (node_at ns i).next ≡ 0 → Held (leaf_level constant_leaf) text ns i (suc i) i (constant_part (truth_constant b p))
+    Says ns i w p → (node_at ns i).next ≡ None → Held (leaf_level constant_leaf) text ns i (suc i) i (constant_part (truth_constant b p))
 unfolding Held
 truth_held text ns i b p w e h n = (i, refl, ((refl, says_is ns i w _ p e h), refl, n))
 
 -- what the token's node holds
 pub leaf_found : (text : Bytes) (l : Leaf) (k : Option Terminal) (p : Place) (s : List Token) (w : What) → length text ≤ script_bytes → TellsAhead text k p → Some w ≡ leaf_node l k p.byte →
-    (u : Part) × (read_leaf l (before k p s) ≡ found u s) × ((ns : List Node) (i : ℕ) → Says ns i w p → (node_at ns i).next ≡ 0 → Held (leaf_level l) text ns i (suc i) i u)
+    (u : Part) × (read_leaf l (before k p s) ≡ found u s) × ((ns : List Node) (i : ℕ) → Says ns i w p → (node_at ns i).next ≡ None → Held (leaf_level l) text ns i (suc i) i u)
 unfolding read_leaf
 leaf_found text l None p s w g t e = absurd (let z : ◌≡◌ {A = ℕ} 0 1 = cc in omega arith)
 leaf_found text name_leaf (Some (word v)) p s w g t e = absurd (let z : ◌≡◌ {A = ℕ} 0 1 = cc in omega arith)

@@ -221,7 +221,7 @@ unfolding Held
 one_name text xs from m i x (l, e, (a, w, z)) = (omega (arith, e, w), a)
 
 attribute_made : (text : Bytes) (zs : List Node) (from m upto i j : ℕ) (y : AtomicType) (x : Name) → Held type_level text zs from m i (type_part y) → Held name_level text zs m upto j (name_part x) →
-    Says zs upto (what.Attribute i j) (type_at y) → (node_at zs upto).next ≡ 0 → Held attribute_level text zs from (suc upto) upto (attribute_declaration (type_part y) (name_part x))
+    Says zs upto (what.Attribute i j) (type_at y) → (node_at zs upto).next ≡ None → Held attribute_level text zs from (suc upto) upto (attribute_declaration (type_part y) (name_part x))
 unfolding Held
 attribute_made text zs from m upto i j y x h k says next =
     let (e, a) = one_type text zs from m i y h in
@@ -231,7 +231,7 @@ attribute_made text zs from m upto i j y x h k says next =
 
 -- an attribute, of its type and its name
 pub attribute_held : (text : Bytes) (xs ys zs : List Node) (from m upto i j : ℕ) (t u : Part) (d : Domain) (p : Place) (x : Bytes) (q : Place) → t ≡ type_part (typed d p) → u ≡ name_part (named x q) →
-    Held type_level text xs from m i t → Held name_level text ys m upto j u → Below m xs ys → Below upto ys zs → Says zs upto (what.Attribute i j) p → (node_at zs upto).next ≡ 0 →
+    Held type_level text xs from m i t → Held name_level text ys m upto j u → Below m xs ys → Below upto ys zs → Says zs upto (what.Attribute i j) p → (node_at zs upto).next ≡ None →
     Held attribute_level text zs from (suc upto) upto (attribute_declaration t u)
 attribute_held text xs ys zs from m upto i j t u d p x q e f h k b c says next =
     let z = held_some listed.Names text ys m upto j u k in
@@ -242,7 +242,7 @@ attribute_held text xs ys zs from m upto i j t u d p x q e f h k b c says next =
     (subst (Held name_level text zs m upto j) f (held_below name_level text ys zs m upto j u c k)) says next))
 
 -- a tuple, of its constants
-pub tuple_held : (text : Bytes) (ys zs : List Node) (from upto i : ℕ) (t : Part) (p : Place) → Held constant_level text ys from upto i t → Below upto ys zs → Says zs upto (what.Tuple i) p → (node_at zs upto).next ≡ 0 →
+pub tuple_held : (text : Bytes) (ys zs : List Node) (from upto i : ℕ) (t : Part) (p : Place) → Held constant_level text ys from upto i t → Below upto ys zs → Says zs upto (what.Tuple i) p → (node_at zs upto).next ≡ None →
     Held tuple_level text zs from (suc upto) upto (tuple_constant (place_part p) t)
 unfolding Held
 tuple_held text ys zs from upto i t p h b says next =

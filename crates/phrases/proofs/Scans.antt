@@ -1,5 +1,5 @@
 -- What the scanner finds: a token takes the bytes that it pays for, and tells of its place; the end is the text's.
-use Rattle.std.proofs.Common.{◌≡◌, ℕ, zero, suc, ◌+◌, ◌-◌, ◌<◌, ◌≤◌, Bool, true, false, cond, ◌&&◌, eqb, leb, [], ◌∷◌, length, get_or, take, drop, Some, None, Option, sym, refl, ap, ◌∙◌, subst, arith}
+use Rattle.std.proofs.Common.{◌≡◌, ℕ, zero, suc, ◌+◌, ◌-◌, ◌<◌, ◌≤◌, Bool, true, false, cond, ◌&&◌, eqb, leb, List, [], ◌∷◌, length, get_or, take, drop, Some, None, Option, sym, refl, ap, ◌∙◌, subst, arith}
 use Rattle.std.proofs.lemmas.List.{length-drop, length-take-le, drop-drop}
 use Rattle.std.proofs.lemmas.Bool.{leb-true, eqb-true}
 use Rattle.std.proofs.lemmas.Bool.Decides.{nat_tests}
@@ -14,7 +14,7 @@ use Rattle.words.specs.Letters.{letter, digit, name_byte, plain, feed, blank, ru
 use Rattle.words.specs.Lexing.{Spot, place, further, skipped, Scan, Scan.found, Scan.ended, Scan.faulty, taken, keyword_terminal, symbol_terminal, word_or_name}
 use Rattle.words.specs.Lexing.{name_at, integer_at, string_at, symbol_scan, sign_at, token_by, token_at, next, followed, tokens_in, tokens_from, end_from, end_of}
 use Rattle.words.specs.Numbers.{value_of}
-use Rattle.words.specs.Spelling.{means, statement_word, operator_word, value_word, or_else, keyword_of, pair_of, single_of, Front.sign_then, Front.no_sign, before}
+use Rattle.words.specs.Spelling.{spellings, spelt_among, keyword_of, pair_of, single_of, Front.sign_then, Front.no_sign, before}
 use Rattle.words.specs.Tokens.{Bytes, Place, Terminal, Token.◌at◌}
 use Rattle.words.specs.Tokens.{Terminal.word, Terminal.sign, Terminal.domain, Terminal.logic, Terminal.comparison, Terminal.sum, Terminal.product}
 use Rattle.words.specs.Tokens.{Terminal.truth, Terminal.integer, Terminal.string, Terminal.name, Terminal.broken}
@@ -119,58 +119,25 @@ same_length (x ∷ s) (y ∷ p) h = go (eqb x y) (same_length s p) h
     go true ih e = ap suc (ih e)
     go false ih e = absurd (let z : ◌≡◌ {A = ℕ} 0 1 = cc in omega arith)
 
-means_cheap : (s p : Bytes) (k : Keyword) (others : Option Keyword) → pays (keyword_terminal k) ≤ length p → Cheap s others → Cheap s (means s p k others)
-means_cheap s p k others c h = go (bytes_eq s p) refl
+-- each of these words pays for no more than its spelling
+abbrev all_cheap : List (Bytes × Keyword) → Bool
+all_cheap [] = true
+all_cheap (w ∷ ws) = leb (pays (keyword_terminal w.1)) (length w.0) && all_cheap ws
+
+found_cheap : (ws : List (Bytes × Keyword)) (s : Bytes) → all_cheap ws ≡ true → Cheap s (spelt_among ws s)
+unfolding Cheap
+found_cheap [] s h = tt
+found_cheap (w ∷ ws) s h = go (leb (pays (keyword_terminal w.1)) (length w.0)) (bytes_eq s w.0) refl refl h (found_cheap ws s)
   where
-    go : (b : Bool) → bytes_eq s p ≡ b → Cheap s (cond b (Some k) others)
-    go false e = h
-    go true e = let l = same_length s p e in unfold Cheap in omega (arith, l, c)
-
-statement_cheap : (s : Bytes) → Cheap s (statement_word s)
-unfolding Cheap
-statement_cheap s =
-    (means_cheap s _ _ _ (let h : 2 ≤ 7 = omega arith in h)
-    (means_cheap s _ _ _ (let h : 1 ≤ 3 = omega arith in h)
-    (means_cheap s _ _ _ (let h : 3 ≤ 5 = omega arith in h)
-    (means_cheap s _ _ _ (let h : 1 ≤ 2 = omega arith in h)
-    (means_cheap s _ _ _ (let h : 1 ≤ 4 = omega arith in h)
-    (means_cheap s _ _ _ (let h : 1 ≤ 4 = omega arith in h)
-    (means_cheap s _ _ _ (let h : 1 ≤ 5 = omega arith in h)
-    (means_cheap s _ _ _ (let h : 1 ≤ 2 = omega arith in h)
-    (means_cheap s _ _ _ (let h : 2 ≤ 4 = omega arith in h)
-    (means_cheap s _ _ _ (let h : 2 ≤ 5 = omega arith in h) tt))))))))))
-
-operator_cheap : (s : Bytes) → Cheap s (operator_word s)
-unfolding Cheap
-operator_cheap s =
-    (means_cheap s _ _ _ (let h : 1 ≤ 4 = omega arith in h)
-    (means_cheap s _ _ _ (let h : 1 ≤ 3 = omega arith in h)
-    (means_cheap s _ _ _ (let h : 1 ≤ 7 = omega arith in h)
-    (means_cheap s _ _ _ (let h : 1 ≤ 6 = omega arith in h)
-    (means_cheap s _ _ _ (let h : 1 ≤ 6 = omega arith in h)
-    (means_cheap s _ _ _ (let h : 1 ≤ 3 = omega arith in h)
-    (means_cheap s _ _ _ (let h : 1 ≤ 6 = omega arith in h)
-    (means_cheap s _ _ _ (let h : 1 ≤ 6 = omega arith in h)
-    (means_cheap s _ _ _ (let h : 1 ≤ 6 = omega arith in h) tt)))))))))
-
-value_cheap : (s : Bytes) → Cheap s (value_word s)
-unfolding Cheap
-value_cheap s =
-    (means_cheap s _ _ _ (let h : 3 ≤ 7 = omega arith in h)
-    (means_cheap s _ _ _ (let h : 3 ≤ 6 = omega arith in h)
-    (means_cheap s _ _ _ (let h : 3 ≤ 7 = omega arith in h)
-    (means_cheap s _ _ _ (let h : 1 ≤ 3 = omega arith in h)
-    (means_cheap s _ _ _ (let h : 1 ≤ 2 = omega arith in h)
-    (means_cheap s _ _ _ (let h : 1 ≤ 4 = omega arith in h)
-    (means_cheap s _ _ _ (let h : 1 ≤ 5 = omega arith in h) tt)))))))
-
-or_cheap : (s : Bytes) (a b : Option Keyword) → Cheap s a → Cheap s b → Cheap s (or_else a b)
-or_cheap s (Some k) b h i = h
-or_cheap s None b h i = i
+    go : (b c : Bool) → leb (pays (keyword_terminal w.1)) (length w.0) ≡ b → bytes_eq s w.0 ≡ c → (b && all_cheap ws) ≡ true →
+        (all_cheap ws ≡ true → Cheap s (spelt_among ws s)) → Cheap s (cond c (Some w.1) (spelt_among ws s))
+    go true true p e h rest = let l = same_length s w.0 e in unfold Cheap in omega (arith, l, leb-true _ _ p)
+    go true false p e h rest = rest h
+    go false c p e h rest = absurd (let z : ◌≡◌ {A = ℕ} 0 1 = cc in omega arith)
 
 keyword_cheap : (s : Bytes) → Cheap s (keyword_of s)
 unfolding keyword_of
-keyword_cheap s = or_cheap s _ _ (statement_cheap s) (or_cheap s _ _ (operator_cheap s) (value_cheap s))
+keyword_cheap s = found_cheap spellings s refl
 
 -- a word or a name pays for no more than its bytes, and tells of its place
 word_pays_lem : (s : Bytes) (k : Option Keyword) → Cheap s k → 1 ≤ length s → pays (word_or_name k s) ≤ length s

@@ -51,10 +51,10 @@ pub cases_err : {A B : Type 0} (P : A → Type 0) (r : Result A B) (y : B) → r
 cases_err P (Ok a) y e = absurd (let z : ◌≡◌ {A = ℕ} 0 1 = cc in omega arith)
 cases_err P (Err b) y e = tt
 
-pub stepped_err : (text : Bytes) (a b : Parser) (r : Result (Unit {0}) Fault) (y x : Fault) → r ≡ Err y → y ≡ x → broken_in (behind a) ≡ some x → Stepped text a b r
+pub stepped_err : (text : Bytes) (arena : List Node) (a b : Parser) (r : Result (Unit {0}) Fault) (y x : Fault) → r ≡ Err y → y ≡ x → broken_in (behind a) ≡ some x → Stepped text arena a b r
 unfolding Stepped
-stepped_err text a b (Ok u) y x e i h = absurd (let z : ◌≡◌ {A = ℕ} 0 1 = cc in omega arith)
-stepped_err text a b (Err f) y x e i h = let g : x ≡ f = cc in h ∙ ap some g
+stepped_err text arena a b (Ok u) y x e i h = absurd (let z : ◌≡◌ {A = ℕ} 0 1 = cc in omega arith)
+stepped_err text arena a b (Err f) y x e i h = let g : x ≡ f = cc in h ∙ ap some g
 
 pub answers_err : (P : Holding) (text : Bytes) (o : Outcome) (from : ℕ) (a b : Parser) (xs ys : List Node) (r : Result ℕ Fault) (y x : Fault) → r ≡ Err y → y ≡ x → refused_by (end_of text) o ≡ some x → Answers P text o from a b xs ys r
 unfolding Answers
@@ -66,8 +66,8 @@ place_before : (text : Bytes) (t : Option Terminal) (p : Place) (s : List Token)
 place_before text (Some t) p s h = refl
 place_before text None p s h = sym h
 
-pub place_ahead : (text : Bytes) (a : Parser) → Grounded text a → place_in (end_of text) (tokens_ahead a) ≡ ahead_at a
-place_ahead text a g = place_before text (spoken a.ahead.token) (ahead_at a) (behind a) g.tells
+pub place_ahead : (text : Bytes) (arena : List Node) (a : Parser) → Grounded text arena a → place_in (end_of text) (tokens_ahead a) ≡ ahead_at a
+place_ahead text arena a g = place_before text (spoken a.ahead.token) (ahead_at a) (behind a) g.tells
 
 -- the scanner's tokens are tokens, so that one which cannot follow breaks that rule
 told_before : (k : Borrowed) (p : Place) (s : List Token) → told cannot_follow (before (spoken k) p s) ≡ CannotFollow
@@ -88,13 +88,13 @@ fault_eq : (r q : Rule) (p w : Place) → r ≡ q → p ≡ w → fault_at r p �
 fault_eq r q p w e f = ap (λ i. fault_at i p) e ∙ ap (fault_at q) f
 
 -- the refusal of the token ahead is the parser's fault
-pub refuses : (text : Bytes) (a : Parser) → Grounded text a → refused_by (end_of text) (refused_at cannot_follow (tokens_ahead a)) ≡ some (fault_at CannotFollow (ahead_at a))
+pub refuses : (text : Bytes) (arena : List Node) (a : Parser) → Grounded text arena a → refused_by (end_of text) (refused_at cannot_follow (tokens_ahead a)) ≡ some (fault_at CannotFollow (ahead_at a))
 unfolding refused_by
-refuses text a g = ap some (fault_eq _ _ _ _ (told_before a.ahead.token (ahead_at a) (behind a)) (place_ahead text a g))
+refuses text arena a g = ap some (fault_eq _ _ _ _ (told_before a.ahead.token (ahead_at a) (behind a)) (place_ahead text arena a g))
 
-pub too_deep_lem : (text : Bytes) (a : Parser) → Grounded text a → refused_by (end_of text) (refused_at too_deep (tokens_ahead a)) ≡ some (fault_at TooDeep (ahead_at a))
+pub too_deep_lem : (text : Bytes) (arena : List Node) (a : Parser) → Grounded text arena a → refused_by (end_of text) (refused_at too_deep (tokens_ahead a)) ≡ some (fault_at TooDeep (ahead_at a))
 unfolding refused_by
-too_deep_lem text a g = ap some (ap (fault_at TooDeep) (place_ahead text a g))
+too_deep_lem text arena a g = ap some (ap (fault_at TooDeep) (place_ahead text arena a g))
 
 -- such a reader refuses what the scanner refuses
 pub refused_ahead : (end : Place) (g : List Token → Outcome) (s : List Token) (f : Fault) → Halts end g → broken_in s ≡ some f → refused_by end (g s) ≡ some f
@@ -122,37 +122,33 @@ refused_first end (read t r) g f h e = refused_ahead end (g t) r f (h t) e
 pub refused_then : (end : Place) (x : Outcome) (t : Part) (r : List Token) (g : Part → List Token → Outcome) (f : Fault) → x ≡ read t r → refused_by end (g t r) ≡ some f → refused_by end (and_then x g) ≡ some f
 refused_then end x t r g f e h = ap (λ i. refused_by end (and_then i g)) e ∙ h
 
--- a reading whose parts are found
-pub found_then : (x y : Outcome) (t : Part) (r : List Token) (g : Part → List Token → Outcome) → x ≡ read t r → g t r ≡ y → and_then x g ≡ y
-found_then x y t r g e h = ap (λ i. and_then i g) e ∙ h
-
 -- what a step has done
-pub stepped_ok : (text : Bytes) (a b : Parser) (u : Unit {0}) → Stepped text a b (Ok u) → (Grounded text b) × (tokens_ahead b ≡ behind a)
+pub stepped_ok : (text : Bytes) (arena : List Node) (a b : Parser) (u : Unit {0}) → Stepped text arena a b (Ok u) → (Grounded text arena b) × (tokens_ahead b ≡ behind a)
 unfolding Stepped
-stepped_ok text a b u h = h
+stepped_ok text arena a b u h = h
 
-pub to_stepped : (text : Bytes) (a b : Parser) (u : Unit {0}) → Grounded text b → tokens_ahead b ≡ behind a → Stepped text a b (Ok u)
+pub to_stepped : (text : Bytes) (arena : List Node) (a b : Parser) (u : Unit {0}) → Grounded text arena b → tokens_ahead b ≡ behind a → Stepped text arena a b (Ok u)
 unfolding Stepped
-to_stepped text a b u g h = (g, h)
+to_stepped text arena a b u g h = (g, h)
 
-pub stepped_broken : (text : Bytes) (a b : Parser) (f : Fault) → Stepped text a b (Err f) → broken_in (behind a) ≡ some f
+pub stepped_broken : (text : Bytes) (arena : List Node) (a b : Parser) (f : Fault) → Stepped text arena a b (Err f) → broken_in (behind a) ≡ some f
 unfolding Stepped
-stepped_broken text a b f h = h
+stepped_broken text arena a b f h = h
 
 -- the word or sign was there
-same_number : (text : Bytes) (w : Terminal) (a b : Parser) (t : Option Terminal) (r : Result (Unit {0}) Fault) → Grounded text a → eqb (code_in w) (code_ahead t) ≡ true → spoken a.ahead.token ≡ t → code_in w < 29 →
-    Stepped text a b r → Expected text w a b r
+same_number : (text : Bytes) (arena : List Node) (w : Terminal) (a b : Parser) (t : Option Terminal) (r : Result (Unit {0}) Fault) → Grounded text arena a → eqb (code_in w) (code_ahead t) ≡ true → spoken a.ahead.token ≡ t → code_in w < 29 →
+    Stepped text arena a b r → Expected text arena w a b r
 unfolding refused_by Stepped Expected expect_token
-same_number text w a b None r g e i l h = absurd (let z = eqb-true (code_in w) 29 e in omega (arith, z, l))
-same_number text w a b (Some v) (Ok u) g e i l (k, q) = (k, rw (i, e) (ap (read (place_part (ahead_at a))) (sym q)))
-same_number text w a b (Some v) (Err f) g e i l q = rw (i, e) q
+same_number text arena w a b None r g e i l h = absurd (let z = eqb-true (code_in w) 29 e in omega (arith, z, l))
+same_number text arena w a b (Some v) (Ok u) g e i l (k, q) = (k, rw (i, e) (ap (read (place_part (ahead_at a))) (sym q)))
+same_number text arena w a b (Some v) (Err f) g e i l q = rw (i, e) q
 
 -- another token was there
-other_number : (text : Bytes) (w : Terminal) (a b : Parser) (t : Option Terminal) → Grounded text a → eqb (code_in w) (code_ahead t) ≡ false → spoken a.ahead.token ≡ t →
-    Expected text w a b (Err (fault_at CannotFollow (ahead_at a)))
+other_number : (text : Bytes) (arena : List Node) (w : Terminal) (a b : Parser) (t : Option Terminal) → Grounded text arena a → eqb (code_in w) (code_ahead t) ≡ false → spoken a.ahead.token ≡ t →
+    Expected text arena w a b (Err (fault_at CannotFollow (ahead_at a)))
 unfolding refused_by Expected expect_token
-other_number text w a b None g e i = let h = refuses text a g in rw i (rw i at h)
-other_number text w a b (Some v) g e i = let h = refuses text a g in rw (i, e) (rw i at h)
+other_number text arena w a b None g e i = let h = refuses text arena a g in rw i (rw i at h)
+other_number text arena w a b (Some v) g e i = let h = refuses text arena a g in rw (i, e) (rw i at h)
 
 code_small : (w : Terminal) → code_in w < 29
 code_small (word Program) = omega arith
@@ -194,14 +190,14 @@ code_small (string x) = omega arith
 code_small (name x) = omega arith
 code_small (broken r) = omega arith
 
-pub expected_there : (text : Bytes) (w : Terminal) (a b : Parser) (r : Result (Unit {0}) Fault) → Grounded text a → eqb (code_in w) (code_ahead (spoken a.ahead.token)) ≡ true →
-    Stepped text a b r → Expected text w a b r
-expected_there text w a b r g e h = same_number text w a b (spoken a.ahead.token) r g e refl (code_small w) h
+pub expected_there : (text : Bytes) (arena : List Node) (w : Terminal) (a b : Parser) (r : Result (Unit {0}) Fault) → Grounded text arena a → eqb (code_in w) (code_ahead (spoken a.ahead.token)) ≡ true →
+    Stepped text arena a b r → Expected text arena w a b r
+expected_there text arena w a b r g e h = same_number text arena w a b (spoken a.ahead.token) r g e refl (code_small w) h
 
-pub expected_else : (text : Bytes) (w : Terminal) (a b : Parser) (f : Fault) → Grounded text a → eqb (code_in w) (code_ahead (spoken a.ahead.token)) ≡ false → f ≡ fault_at CannotFollow (ahead_at a) →
-    Expected text w a b (Err f)
-expected_else text w a b f g e h =
-    subst (λ j. Expected text w a b (Err j)) (sym h) (other_number text w a b (spoken a.ahead.token) g e refl)
+pub expected_else : (text : Bytes) (arena : List Node) (w : Terminal) (a b : Parser) (f : Fault) → Grounded text arena a → eqb (code_in w) (code_ahead (spoken a.ahead.token)) ≡ false → f ≡ fault_at CannotFollow (ahead_at a) →
+    Expected text arena w a b (Err f)
+expected_else text arena w a b f g e h =
+    subst (λ j. Expected text arena w a b (Err j)) (sym h) (other_number text arena w a b (spoken a.ahead.token) g e refl)
 
 -- a word or sign that is there is a token
 pub code_pays : (w : Terminal) (k : Option Terminal) → eqb (code_in w) (code_ahead k) ≡ true → 1 ≤ pays_ahead k
@@ -209,18 +205,13 @@ code_pays w (Some t) e = pays_some t
 code_pays w None e = absurd (let z = eqb-true (code_in w) 29 e in let l = code_small w in omega (arith, z, l))
 
 -- what an expected token has done
-pub expected_ok : (text : Bytes) (w : Terminal) (a b : Parser) (u : Unit {0}) → Expected text w a b (Ok u) → (Grounded text b) × (expect_token (w at origin) (tokens_ahead a) ≡ read (place_part (ahead_at a)) (tokens_ahead b))
+pub expected_ok : (text : Bytes) (arena : List Node) (w : Terminal) (a b : Parser) (u : Unit {0}) → Expected text arena w a b (Ok u) → (Grounded text arena b) × (expect_token (w at origin) (tokens_ahead a) ≡ read (place_part (ahead_at a)) (tokens_ahead b))
 unfolding Expected
-expected_ok text w a b u h = h
+expected_ok text arena w a b u h = h
 
-pub expected_broken : (text : Bytes) (w : Terminal) (a b : Parser) (f : Fault) → Expected text w a b (Err f) → refused_by (end_of text) (expect_token (w at origin) (tokens_ahead a)) ≡ some f
+pub expected_broken : (text : Bytes) (arena : List Node) (w : Terminal) (a b : Parser) (f : Fault) → Expected text arena w a b (Err f) → refused_by (end_of text) (expect_token (w at origin) (tokens_ahead a)) ≡ some f
 unfolding Expected
-expected_broken text w a b f h = h
-
-pub expected_err : (text : Bytes) (w : Terminal) (a b : Parser) (r : Result (Unit {0}) Fault) (y x : Fault) → r ≡ Err y → y ≡ x → refused_by (end_of text) (expect_token (w at origin) (tokens_ahead a)) ≡ some x → Expected text w a b r
-unfolding Expected
-expected_err text w a b (Ok u) y x e i h = absurd (let z : ◌≡◌ {A = ℕ} 0 1 = cc in omega arith)
-expected_err text w a b (Err f) y x e i h = let g : x ≡ f = cc in h ∙ ap some g
+expected_broken text arena w a b f h = h
 
 -- a reading that has found its part comes to what is no token, if that stands next
 pub found_broken : (end : Place) (o : Outcome) (t : Part) (s : List Token) (f : Fault) → o ≡ read t s → broken_in s ≡ some f → refused_by end o ≡ some f
@@ -240,37 +231,37 @@ paid_less (Ok a) m n k h e = omega (arith, h, e)
 paid_less (Err b) m n k h e = tt
 
 -- no depth is left
-pub opened_none : (text : Bytes) (n : ℕ) (a b : Parser) (f : Fault) → n ≡ 0 → 0 < pays_ahead (spoken a.ahead.token) → Grounded text a → f ≡ fault_at TooDeep (ahead_at a) → Opened text n a b (Err f)
+pub opened_none : (text : Bytes) (arena : List Node) (n : ℕ) (a b : Parser) (f : Fault) → n ≡ 0 → 0 < pays_ahead (spoken a.ahead.token) → Grounded text arena a → f ≡ fault_at TooDeep (ahead_at a) → Opened text arena n a b (Err f)
 unfolding Opened opened
-opened_none text n a b f z live g e h k =
-    subst (λ m. refused_by (end_of text) (opened m h (tokens_ahead a)) ≡ some f) (sym z) (subst (λ x. refused_by (end_of text) (opened 0 h (tokens_ahead a)) ≡ some x) (sym e) (ap (refused_by (end_of text)) (closed (spoken a.ahead.token) live) ∙ too_deep_lem text a g))
+opened_none text arena n a b f z live g e h k =
+    subst (λ m. refused_by (end_of text) (opened m h (tokens_ahead a)) ≡ some f) (sym z) (subst (λ x. refused_by (end_of text) (opened 0 h (tokens_ahead a)) ≡ some x) (sym e) (ap (refused_by (end_of text)) (closed (spoken a.ahead.token) live) ∙ too_deep_lem text arena a g))
   where
     closed : (t : Option Terminal) → 0 < pays_ahead t → opened 0 h (before t (ahead_at a) (behind a)) ≡ refused_at too_deep (before t (ahead_at a) (behind a))
     closed None l = absurd (let y : ⊥ = omega arith in y)
     closed (Some t) l = refl
 
 -- what is no token stands behind the opening one
-pub opened_broken : (text : Bytes) (n m : ℕ) (a b : Parser) (r : Result ℕ Fault) (y x : Fault) → n ≡ suc m → 0 < pays_ahead (spoken a.ahead.token) → r ≡ Err y → y ≡ x → broken_in (behind a) ≡ some x → Opened text n a b r
+pub opened_broken : (text : Bytes) (arena : List Node) (n m : ℕ) (a b : Parser) (r : Result ℕ Fault) (y x : Fault) → n ≡ suc m → 0 < pays_ahead (spoken a.ahead.token) → r ≡ Err y → y ≡ x → broken_in (behind a) ≡ some x → Opened text arena n a b r
 unfolding Opened opened
-opened_broken text n m a b (Ok i) y x z l e i2 h = absurd (let w : ◌≡◌ {A = ℕ} 0 1 = cc in omega arith)
-opened_broken text n m a b (Err f) y x z l e i h = λ g k. let j : x ≡ f = cc in
+opened_broken text arena n m a b (Ok i) y x z l e i2 h = absurd (let w : ◌≡◌ {A = ℕ} 0 1 = cc in omega arith)
+opened_broken text arena n m a b (Err f) y x z l e i h = λ g k. let j : x ≡ f = cc in
     subst (λ q. refused_by (end_of text) (opened q g (tokens_ahead a)) ≡ some f) (sym z) (go g k (spoken a.ahead.token) l ∙ ap some j)
   where
     go : (g : ℕ → Place → Reader) → ((m : ℕ) (p : Place) → Halts (end_of text) (g m p)) → (t : Option Terminal) → 0 < pays_ahead t → refused_by (end_of text) (opened (suc m) g (before t (ahead_at a) (behind a))) ≡ some x
     go g k None l = absurd (let y : ⊥ = omega arith in y)
     go g k (Some t) l = refused_ahead (end_of text) (g m (ahead_at a)) (behind a) x (k m (ahead_at a)) h
 
-pub to_opened : (text : Bytes) (n m : ℕ) (a b : Parser) → n ≡ suc m → Stepped text a b (Ok tt) → Opened text n a b (Ok m)
+pub to_opened : (text : Bytes) (arena : List Node) (n m : ℕ) (a b : Parser) → n ≡ suc m → Stepped text arena a b (Ok tt) → Opened text arena n a b (Ok m)
 unfolding Opened Stepped
-to_opened text n m a b e (g, h) = (e, g, h)
+to_opened text arena n m a b e (g, h) = (e, g, h)
 
-pub opened_ok : (text : Bytes) (n m : ℕ) (a b : Parser) → Opened text n a b (Ok m) → (n ≡ suc m) × (Grounded text b) × (tokens_ahead b ≡ behind a)
+pub opened_ok : (text : Bytes) (arena : List Node) (n m : ℕ) (a b : Parser) → Opened text arena n a b (Ok m) → (n ≡ suc m) × (Grounded text arena b) × (tokens_ahead b ≡ behind a)
 unfolding Opened
-opened_ok text n m a b h = h
+opened_ok text arena n m a b h = h
 
-pub opened_err : (text : Bytes) (n : ℕ) (a b : Parser) (f : Fault) (g : ℕ → Place → Reader) → ((m : ℕ) (p : Place) → Halts (end_of text) (g m p)) → Opened text n a b (Err f) → refused_by (end_of text) (opened n g (tokens_ahead a)) ≡ some f
+pub opened_err : (text : Bytes) (arena : List Node) (n : ℕ) (a b : Parser) (f : Fault) (g : ℕ → Place → Reader) → ((m : ℕ) (p : Place) → Halts (end_of text) (g m p)) → Opened text arena n a b (Err f) → refused_by (end_of text) (opened n g (tokens_ahead a)) ≡ some f
 unfolding Opened
-opened_err text n a b f g k h = h g k
+opened_err text arena n a b f g k h = h g k
 
 -- behind the opening token, by what is read there
 pub opened_is : (n m : ℕ) (g : ℕ → Place → Reader) (a : Parser) (s : List Token) → n ≡ suc m → 0 < pays_ahead (spoken a.ahead.token) → s ≡ behind a → opened n g (tokens_ahead a) ≡ g m (ahead_at a) s

@@ -50,6 +50,10 @@ abbrev pub pays_ahead : Option Terminal → ℕ
 pays_ahead (Some t) = pays t
 pays_ahead None = 0
 
+-- how many nodes a token pays for, and the bytes behind it
+abbrev pub worth_of : Option Terminal → Spot → ℕ
+worth_of t s = pays_ahead t + length s.rest
+
 -- the tokens of what is left
 unfoldable pub following : Spot → List Token
 following s = tokens_from s

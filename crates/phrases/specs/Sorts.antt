@@ -1,7 +1,7 @@
 -- The sorts of the code as those of the grammar.
 use Rattle.grammar.specs.Parts.{Leaf, Leaf.name_leaf, Leaf.type_leaf, Leaf.constant_leaf, Level}
 use Rattle.grammar.specs.Parts.{Level.name_level, Level.type_level, Level.constant_level, Level.attribute_level, Level.tuple_level}
-use Rattle.std.specs.Prelude.{ℕ}
+use Rattle.std.specs.Prelude.{ℕ, Some}
 use Rattle.grammar.specs.Promise.{any_token}
 use Rattle.grammar.specs.Readers.{Reader, read_leaf, read_attribute, read_tuple, brackets_at}
 use Rattle.tree.specs.declared.nodes.Node.{Node}
@@ -46,4 +46,4 @@ item_reader n listed.Tuples = read_tuple (brackets_at any_token n)
 
 -- a node with another one behind it
 abbrev pub relinked : Node → ℕ → Node
-relinked n next = record { what = n.what; line = n.line; byte = n.byte; next = next }
+relinked n next = record { what = n.what; place = n.place; next = Some next }

@@ -1,13 +1,12 @@
 -- The parser's state as the grammar sees it, and what a step of it does.
-use Rattle.std.specs.Prelude.{◌≡◌, ℕ, zero, suc, ◌+◌, ◌<◌, ◌≤◌, List, [], ◌∷◌, length, Some, None, Ok, Err, Option, Result}
+use Rattle.std.specs.Prelude.{◌≡◌, ℕ, zero, suc, ◌+◌, ◌<◌, ◌≤◌, List, [], ◌∷◌, Some, None, Ok, Err, Option, Result}
 use Rattle.std.proofs.Math.Option.{Option as Maybe, none, some}
 use Rattle.fault.specs.declared.rules.Fault.{Fault}
 use Rattle.fault.specs.declared.rules.Rule.{Rule}
 use Rattle.words.specs.Tokens.{Bytes, Place, Terminal, Token, Token.◌at◌, Terminal.word, Terminal.sign, Terminal.domain, Terminal.logic, Terminal.comparison}
 use Rattle.words.specs.Tokens.{Terminal.sum, Terminal.product, Terminal.truth, Terminal.integer, Terminal.string, Terminal.name, Terminal.broken}
-use Rattle.words.specs.Lexing.{place, end_of}
+use Rattle.words.specs.Lexing.{end_of}
 use Rattle.words.specs.Views.{spoken, standing}
-use Rattle.words.specs.declared.tokens.Lexeme.{Lexeme}
 use Rattle.grammar.specs.Parts.{Part, code_in, origin, place_part}
 use Rattle.grammar.specs.Promise.{place_in}
 use Rattle.grammar.specs.Readers.{Cause.cannot_follow, Cause.too_deep, Outcome, Outcome.found, Outcome.refused_at, Reader, expect_token, told}
@@ -16,14 +15,11 @@ use Rattle.tree.specs.Kept.{Below, Beyond}
 use Rattle.tree.specs.declared.nodes.Node.{Node}
 use Rattle.tree.specs.declared.nodes.What.{What}
 use Rattle.phrases.specs.declared.parsers.Parser.{Parser}
-use Rattle.phrases.specs.Places.{pays_ahead, following, Lies, TellsAhead}
+use Rattle.phrases.specs.Places.{worth_of, following, Lies, TellsAhead}
 
 -- the place of the token ahead
-abbrev pub lexeme_at : Lexeme → Place
-lexeme_at l = place l.line l.byte
-
 abbrev pub ahead_at : Parser → Place
-ahead_at p = lexeme_at p.ahead
+ahead_at p = p.ahead.place
 
 -- a token before others; the end of the text has none
 abbrev pub before : Option Terminal → Place → List Token → List Token
@@ -40,12 +36,13 @@ tokens_ahead p = before (spoken p.ahead.token) (ahead_at p) (behind p)
 
 -- how many nodes the rest of the text can pay for: what the token ahead pays, and the bytes behind it
 abbrev pub worth : Parser → ℕ
-worth p = pays_ahead (spoken p.ahead.token) + length (standing p.scanner).rest
+worth p = worth_of (spoken p.ahead.token) (standing p.scanner)
 
--- the state stands in this text
-pub record Grounded (text : Bytes) (p : Parser) : Type 0 where
+-- the state stands in this text, and these are the entries of its arena
+pub record Grounded (text : Bytes) (arena : List Node) (p : Parser) : Type 0 where
   pub lies : Lies text (standing p.scanner)
   pub tells : TellsAhead text (spoken p.ahead.token) (ahead_at p)
+  pub entries : p.nodes.now ≡ arena
 
 -- words and signs by number, the end by one of its own
 abbrev pub code_ahead : Option Terminal → ℕ
@@ -53,7 +50,7 @@ code_ahead (Some t) = code_in t
 code_ahead None = 29
 
 abbrev pub fault_at : Rule → Place → Fault
-fault_at r p = record { rule = r; line = p.line; byte = p.byte }
+fault_at r p = record { rule = r; place = p }
 
 -- the fault of what is no token
 abbrev pub broken_at : Terminal → Place → Maybe Fault
@@ -84,14 +81,14 @@ abbrev pub Halts : Place → Reader → Type 0
 Halts end g = (c : Rule) (p : Place) (q : List Token) → refused_by end (g ((broken c at p) ∷ q)) ≡ some (fault_at c p)
 
 -- one token on
-unfoldable pub Stepped : Bytes → Parser → Parser → Result (Unit {0}) Fault → Type 0
-Stepped text a b (Ok u) = (Grounded text b) × (tokens_ahead b ≡ behind a)
-Stepped text a b (Err f) = broken_in (behind a) ≡ some f
+unfoldable pub Stepped : Bytes → List Node → Parser → Parser → Result (Unit {0}) Fault → Type 0
+Stepped text arena a b (Ok u) = (Grounded text arena b) × (tokens_ahead b ≡ behind a)
+Stepped text arena a b (Err f) = broken_in (behind a) ≡ some f
 
 -- the token ahead was to be this one
-unfoldable pub Expected : Bytes → Terminal → Parser → Parser → Result (Unit {0}) Fault → Type 0
-Expected text w a b (Ok u) = (Grounded text b) × (expect_token (w at origin) (tokens_ahead a) ≡ found (place_part (ahead_at a)) (tokens_ahead b))
-Expected text w a b (Err f) = refused_by (end_of text) (expect_token (w at origin) (tokens_ahead a)) ≡ some f
+unfoldable pub Expected : Bytes → List Node → Terminal → Parser → Parser → Result (Unit {0}) Fault → Type 0
+Expected text arena w a b (Ok u) = (Grounded text arena b) × (expect_token (w at origin) (tokens_ahead a) ≡ found (place_part (ahead_at a)) (tokens_ahead b))
+Expected text arena w a b (Err f) = refused_by (end_of text) (expect_token (w at origin) (tokens_ahead a)) ≡ some f
 
 -- behind a token that opens a depth, where n may still be opened
 unfoldable pub opened : ℕ → (ℕ → Place → Reader) → Reader
@@ -100,16 +97,18 @@ opened zero g (k ∷ s) = refused_at too_deep (k ∷ s)
 opened (suc n) g (k ∷ s) = g n (place_of k) s
 
 -- a depth is opened, and its token passed
-unfoldable pub Opened : Bytes → ℕ → Parser → Parser → Result ℕ Fault → Type 0
-Opened text n a b (Ok m) = (n ≡ suc m) × (Grounded text b) × (tokens_ahead b ≡ behind a)
-Opened text n a b (Err f) = (g : ℕ → Place → Reader) → ((m : ℕ) (p : Place) → Halts (end_of text) (g m p)) → refused_by (end_of text) (opened n g (tokens_ahead a)) ≡ some f
+unfoldable pub Opened : Bytes → List Node → ℕ → Parser → Parser → Result ℕ Fault → Type 0
+Opened text arena n a b (Ok m) = (n ≡ suc m) × (Grounded text arena b) × (tokens_ahead b ≡ behind a)
+Opened text arena n a b (Err f) = (g : ℕ → Place → Reader) → ((m : ℕ) (p : Place) → Halts (end_of text) (g m p)) → refused_by (end_of text) (opened n g (tokens_ahead a)) ≡ some f
 
--- one node more is taken
-abbrev pub counted : Parser → Parser
-counted p = record { scanner = p.scanner; ahead = p.ahead; count = p.count + 1 }
+-- one node more is taken, and nothing is read
+pub record Counted (a b : Parser) : Type 0 where
+  pub scanner : b.scanner ≡ a.scanner
+  pub ahead : b.ahead ≡ a.ahead
+  pub count : b.count ≡ suc a.count
 
 abbrev pub new_node : What → Place → Node
-new_node w p = record { what = w; line = p.line; byte = p.byte; next = 0 }
+new_node w p = record { what = w; place = p; next = None }
 
 -- nodes are paid for, and a token at least is read
 pub record Numbers (a b : Parser) : Type 0 where
@@ -131,7 +130,7 @@ Holding = Bytes → List Node → ℕ → ℕ → ℕ → Part → Type 0
 pub record Done (P : Holding) (text : Bytes) (o : Outcome) (from : ℕ) (a b : Parser) (xs ys : List Node) (i : ℕ) : Type 0 where
   pub part : Part
   pub value : o ≡ found part (tokens_ahead b)
-  pub grounded : Grounded text b
+  pub grounded : Grounded text ys b
   pub below : Below from xs ys
   pub beyond : Beyond b.count xs ys
   pub holds : P text ys from b.count i part
@@ -141,10 +140,10 @@ Answers P text o from a b xs ys (Ok i) = Done P text o from a b xs ys i
 Answers P text o from a b xs ys (Err f) = refused_by (end_of text) o ≡ some f
 
 -- a function of the parser does what the reader does on the tokens ahead, and puts its nodes into the free entries
-abbrev pub Follows : Holding → Reader → Parser → Parser → List Node → List Node → Result ℕ Fault → Type 0
-Follows P reader a b xs ys r = (text : Bytes) → Grounded text a → Answers P text (reader (tokens_ahead a)) a.count a b xs ys r
+abbrev pub Follows : Holding → Reader → Parser → Parser → Result ℕ Fault → Type 0
+Follows P reader a b r = (text : Bytes) (arena : List Node) → Grounded text arena a → Answers P text (reader (tokens_ahead a)) a.count a b arena b.nodes.now r
 
 -- one that goes on from a part which the arena holds, by the index i
-abbrev pub GoesOn : Holding → (Part → Reader) → ℕ → Parser → Parser → List Node → List Node → Result ℕ Fault → Type 0
-GoesOn P reader i a b xs ys r =
-    (text : Bytes) → Grounded text a → (from : ℕ) (t : Part) → P text xs from a.count i t → Answers P text (reader t (tokens_ahead a)) from a b xs ys r
+abbrev pub GoesOn : Holding → (Part → Reader) → ℕ → Parser → Parser → Result ℕ Fault → Type 0
+GoesOn P reader i a b r =
+    (text : Bytes) (arena : List Node) → Grounded text arena a → (from : ℕ) (t : Part) → P text arena from a.count i t → Answers P text (reader t (tokens_ahead a)) from a b arena b.nodes.now r

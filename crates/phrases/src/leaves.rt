@@ -1,6 +1,5 @@
 // The tokens that are a node by themselves: names, atomic types, atomic constants.
 ghost use Rattle.std.specs.Prelude.{◌≡◌, ◌+◌, ◌≤◌, length, pos, OnOk};
-ghost use Rattle.fault.specs.Limits.{nodes as nodes_limit};
 ghost use Rattle.grammar.specs.Readers.{read_leaf};
 ghost use Rattle.words.specs.Views.{spoken};
 ghost use Rattle.phrases.specs.Held.{Held, leaf_level};
@@ -10,75 +9,59 @@ ghost use Rattle.phrases.specs.States.{worth, Numbers, Follows};
 
 use crate::parsers::Parser;
 use crate::sorts::Leaf;
-use fault::Fault;
 use fault::limits::INTEGER_MAX;
-use tree::{Node, What};
+use fault::{Fault, Rule};
+use tree::What;
 use words::numbers::value_within;
 use words::{Lexeme, Span, Token};
 
-// A number of a text; those are in range, so that no text meets the other case.
-fn short(n: u64) -> u16
-    ensures { result ≡ within 65535 n }
-{
-    if n > 65535 {
-        return 0;
-    }
-    n as u16
-}
-
+// A text is so short that both numbers are in range.
 fn span(start: u64, bytes: &[u8]) -> Span
     ensures { result ≡ span_of start bytes.now }
 {
-    let len = bytes.len();
-    if len > 255 {
-        return Span {
-            start: short(start),
-            len: 0,
-        };
-    }
     Span {
-        start: short(start),
-        len: len as u8,
+        start: u16::try_from(start).unwrap_or(0),
+        len: u8::try_from(bytes.len()).unwrap_or(0),
     }
 }
 
+// A token's integer is in range.
 fn integer(digits: &[u8]) -> i64
     ensures { result ≡ integer_of digits.now }
 {
-    match value_within(digits, INTEGER_MAX) {
-        Some(value) => value as i64,
-        None => 0,
-    }
+    value_within(digits, INTEGER_MAX).map_or(0, |value| i64::try_from(value).unwrap_or(0))
 }
 
 // The node that the token is, where a leaf of this sort is due.
 fn leaf_node(leaf: Leaf, at: Lexeme) -> Option<What>
-    ensures { result ≡ leaf_node (leaf_of leaf) (spoken at.entry.token) at.entry.byte }
+    ensures { result ≡ leaf_node (leaf_of leaf) (spoken at.entry.token) at.entry.place.byte }
 {
     match (leaf, at.token) {
-        (Leaf::Name, Token::Name(bytes)) => Some(What::Name(span(at.byte as u64, bytes))),
+        (Leaf::Name, Token::Name(bytes)) => Some(What::Name(span(at.place.byte as u64, bytes))),
         (Leaf::Type, Token::Domain(domain)) => Some(What::AtomicType(domain)),
         (Leaf::Constant, Token::Integer(digits)) => Some(What::Integer(integer(digits))),
-        (Leaf::Constant, Token::Text(bytes)) => Some(What::Text(span(at.byte as u64 + 1, bytes))),
+        (Leaf::Constant, Token::Text(bytes)) => Some(What::Text(span(
+            at.place.byte as u64 + 1,
+            bytes,
+        ))),
         (Leaf::Constant, Token::Truth(truth)) => Some(What::Truth(truth)),
         _ => None,
     }
 }
 
 // The token ahead as a node.
-pub fn leaf<'a>(parser: &mut Parser<'a>, nodes: &mut [Node], leaf: Leaf) -> Result<u16, Fault>
-    requires room { parser.old.count + worth parser.old ≤ nodes_limit }
-    requires fits { nodes_limit ≤ length nodes.old }
+pub fn leaf(parser: &mut Parser<'_>, leaf: Leaf) -> Result<u16, Fault>
+    ensures lent { parser.new.nodes.ghost_name ≡ parser.old.nodes.ghost_name }
     ensures numbers { OnOk result (Numbers parser.old parser.new) }
     ensures spare { OnOk result (parser.new.count + worth parser.new + leaf_pays (leaf_of leaf) ≤ parser.old.count + worth parser.old + 1) }
-    ensures answer { Follows (Held (leaf_level (leaf_of leaf))) (read_leaf (leaf_of leaf)) parser.old parser.new nodes.old nodes.new result }
+    ensures answer { Follows (Held (leaf_level (leaf_of leaf))) (read_leaf (leaf_of leaf)) parser.old parser.new result }
 {
     let at = parser.ahead;
     match leaf_node(leaf, at) {
         Some(what) => {
             parser.advance()?;
-            Ok(parser.put(nodes, what, at))
+            Ok(parser.put(what, at))
         }
-        None => Err(parser.refuse()),
+        None => Err(parser.refuse(Rule::CannotFollow)),
     }
 }

@@ -1,16 +1,14 @@
 -- A call is refused exactly for the reasons that are listed, and a refusal changes nothing.
-use Rattle.std.proofs.Common.{◌≡◌, ℕ, zero, suc, ◌+◌, ◌<◌, Bool, true, false, ◌⊎◌, List, [], ◌∷◌, length, get_or, sym, refl, ap, ◌∙◌, subst, inl, inr, ⊎_elim, arith}
+use Rattle.std.proofs.Common.{◌≡◌, ℕ, zero, suc, ◌+◌, ◌<◌, Bool, true, false, ◌⊎◌, List, [], ◌∷◌, length, get_or, Ok, Err, sym, refl, ap, ◌∙◌, subst, inl, inr, ⊎_elim, arith}
 use Rattle.std.proofs.lemmas.Bool.{cases_lt, cases_Bool, false≢true, or_left, or_right, or_cases}
 use Rattle.fault.specs.declared.rules.Rule.{Rule}
 use Rattle.fault.specs.declared.rules.Rule.TheVariants.{NoCellsLeft, TooManyTables, WidthOutside, NoSuchPlace}
 use Rattle.fault.specs.Limits as limits
 use Rattle.store.specs.Meaning.{Row, Store, table_count, table_at, last_table, cells_left, row_for, repeats, has, same_row, refused_by}
-use Rattle.store.specs.Calls.{answer, after, accepted_answer, number_answer, value_answer}
+use Rattle.store.specs.Calls.{Answered, answer, after, accepted_answer, number_answer, value_answer}
 use Rattle.store.specs.Laws.{Among, Refuses, too_many, too_narrow, too_wide, none_to_add_to, none_to_drop, none_earlier, no_cells, no_table_wide, no_table_long, no_table, no_row, no_column, RefusedRightly}
 use Rattle.store.specs.declared.calls.Call.{Call}
 use Rattle.store.specs.declared.calls.Call.TheVariants.{Open, Add, Drop, Settle, Capacity, CellsLeft, TableCount, Width, RowCount, Cell}
-use Rattle.store.specs.declared.calls.Answer.{Answer}
-use Rattle.store.specs.declared.calls.Answer.TheVariants.{Accepted, Number, Value, Refused}
 use Rattle.store.proofs.Rows.{same_row_true, same_row_refl}
 use Rattle.store.proofs.Cases.{open_many, open_outside, open_accepted, add_absent, add_repeat, add_full, add_new, drop_absent, drop_accepted, settle_absent, settle_accepted}
 use Rattle.store.proofs.Cases.{width_absent, width_told, rows_absent, rows_told, cell_absent, cell_told}
@@ -34,7 +32,7 @@ not_found true h = absurd (h refl)
 not_found false h = refl
 
 -- Every reason is met by its refusal, and nothing changes.
-pub refused : (s : Store) (call : Call) (rule : Rule) → Refuses s call rule → (answer s call ≡ Refused (refused_by rule)) × (after s call ≡ s)
+pub refused : (s : Store) (call : Call) (rule : Rule) → Refuses s call rule → (answer s call ≡ Err (refused_by rule)) × (after s call ≡ s)
 refused s (Open w) _ (too_many h) = let p = open_many s w h in (ap accepted_answer (sym p.0), sym p.1)
 refused s (Open w) _ (too_narrow h k) = let p = open_outside s w h (inl k) in (ap accepted_answer (sym p.0), sym p.1)
 refused s (Open w) _ (too_wide h k) = let p = open_outside s w h (inr k) in (ap accepted_answer (sym p.0), sym p.1)
@@ -56,18 +54,14 @@ refused s (Cell t r c) _ (no_column h) = (ap value_answer (sym (cell_absent s t 
 
 -- Every refusal has its reason: a call has one, or its answer is none.
 
-abbrev pub is_refused : Answer → Bool
-is_refused Accepted = false
-is_refused (Number n) = false
-is_refused (Value v) = false
-is_refused (Refused f) = true
+abbrev pub is_refused : Answered → Bool
+is_refused (Ok a) = false
+is_refused (Err f) = true
 
 -- what a refusal names
-abbrev pub rule_of : Answer → Rule
-rule_of Accepted = NoSuchPlace
-rule_of (Number n) = NoSuchPlace
-rule_of (Value v) = NoSuchPlace
-rule_of (Refused f) = f.rule
+abbrev pub rule_of : Answered → Rule
+rule_of (Ok a) = NoSuchPlace
+rule_of (Err f) = f.rule
 
 -- a reason to refuse the call, or no refusal
 abbrev pub Judged : Store → Call → Type 0
@@ -114,11 +108,11 @@ refused_rightly s call =
       nothing = λ rule h. (refused s call rule h).1;
     }
   where
-    known : (rule : Rule) → answer s call ≡ Refused (refused_by rule) → (why : Rule) × Refuses s call why → Refuses s call rule
+    known : (rule : Rule) → answer s call ≡ Err (refused_by rule) → (why : Rule) × Refuses s call why → Refuses s call rule
     known rule e (why, h) = subst (λ x. Refuses s call x) (ap rule_of (sym (refused s call why h).0 ∙ e)) h
 
 -- the same of an answer and a store that are those of the meaning
-pub rightly : (s : Store) (call : Call) (a : Answer) (s' : Store) → a ≡ answer s call → s' ≡ after s call → RefusedRightly s call a s'
+pub rightly : (s : Store) (call : Call) (a : Answered) (s' : Store) → a ≡ answer s call → s' ≡ after s call → RefusedRightly s call a s'
 rightly s call a s' e f =
     record {
       reason = λ rule h. (refused_rightly s call).reason rule (sym e ∙ h);

@@ -6,28 +6,32 @@ use Rattle.store.specs.Meaning.{open_reply, open_after, add_reply, add_after, dr
 use Rattle.store.specs.declared.calls.Call.{Call}
 use Rattle.store.specs.declared.calls.Call.TheVariants.{Open, Add, Drop, Settle, Capacity, CellsLeft, TableCount, Width, RowCount, Cell}
 use Rattle.store.specs.declared.calls.Answer.{Answer}
-use Rattle.store.specs.declared.calls.Answer.TheVariants.{Accepted, Number, Value, Refused}
+use Rattle.store.specs.declared.calls.Answer.TheVariants.{Accepted, Number, Value}
 
-abbrev pub accepted_answer : Reply → Answer
-accepted_answer (Ok u) = Accepted
-accepted_answer (Err f) = Refused f
+-- what a call is answered by: an answer if it is accepted, else the refusal
+abbrev pub Answered : Type 0
+Answered = Result Answer Fault
 
-abbrev pub number_answer : Result ℕ Fault → Answer
-number_answer (Ok n) = Number n
-number_answer (Err f) = Refused f
+abbrev pub accepted_answer : Reply → Answered
+accepted_answer (Ok u) = Ok Accepted
+accepted_answer (Err f) = Err f
 
-abbrev pub value_answer : Result ℤ Fault → Answer
-value_answer (Ok v) = Value v
-value_answer (Err f) = Refused f
+abbrev pub number_answer : Result ℕ Fault → Answered
+number_answer (Ok n) = Ok (Number n)
+number_answer (Err f) = Err f
 
-abbrev pub answer : Store → Call → Answer
+abbrev pub value_answer : Result ℤ Fault → Answered
+value_answer (Ok v) = Ok (Value v)
+value_answer (Err f) = Err f
+
+abbrev pub answer : Store → Call → Answered
 answer s (Open w) = accepted_answer (open_reply s w)
 answer s (Add r) = accepted_answer (add_reply s r)
 answer s Drop = accepted_answer (drop_reply s)
 answer s (Settle n) = accepted_answer (settle_reply s n)
-answer s Capacity = Number s.capacity
-answer s CellsLeft = Number (cells_left s)
-answer s TableCount = Number (table_count s)
+answer s Capacity = Ok (Number s.capacity)
+answer s CellsLeft = Ok (Number (cells_left s))
+answer s TableCount = Ok (Number (table_count s))
 answer s (Width t) = number_answer (width_reply s t)
 answer s (RowCount t) = number_answer (rows_reply s t)
 answer s (Cell t r c) = value_answer (cell_reply s t r c)

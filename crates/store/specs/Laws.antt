@@ -1,15 +1,13 @@
 -- What callers may rely on, in their own words: when a call is refused, and what no list of calls can bring about.
-use Rattle.std.specs.Prelude.{◌≡◌, ℕ, ◌+◌, ◌<◌, ◌≤◌, List, [], ◌∷◌, length, take, ◌≢◌, slice_index_or}
+use Rattle.std.specs.Prelude.{◌≡◌, ℕ, ◌+◌, ◌<◌, ◌≤◌, List, [], ◌∷◌, length, take, ◌≢◌, slice_index_or, Err}
 use Rattle.fault.specs.declared.rules.Rule.{Rule}
 use Rattle.fault.specs.declared.rules.Rule.TheVariants.{NoCellsLeft, TooManyTables, WidthOutside, NoSuchPlace}
 use Rattle.fault.specs.Limits as limits
 use Rattle.store.specs.Meaning.{Row, Store, table_count, table_at, last_table, used, cells_left, refused_by}
 use Rattle.store.specs.Sound.{Sound}
-use Rattle.store.specs.Calls.{answer, after, after_all}
+use Rattle.store.specs.Calls.{Answered, answer, after, after_all}
 use Rattle.store.specs.declared.calls.Call.{Call}
 use Rattle.store.specs.declared.calls.Call.TheVariants.{Open, Add, Drop, Settle, Capacity, CellsLeft, TableCount, Width, RowCount, Cell}
-use Rattle.store.specs.declared.calls.Answer.{Answer}
-use Rattle.store.specs.declared.calls.Answer.TheVariants.{Refused}
 
 -- the row stands among these
 abbrev pub Among : Row → List Row → Type 0
@@ -36,9 +34,9 @@ pub data Refuses (s : Store) : Call → Rule → Type 0 where
   no_column : {t r c : ℕ} → (table_at s t).width ≤ c → Refuses s (Cell t r c) NoSuchPlace
 
 -- A call is refused exactly for these reasons, and then nothing changes.
-pub record RefusedRightly (s : Store) (call : Call) (a : Answer) (s' : Store) : Type 0 where
-  pub reason : (rule : Rule) → a ≡ Refused (refused_by rule) → Refuses s call rule
-  pub always : (rule : Rule) → Refuses s call rule → a ≡ Refused (refused_by rule)
+pub record RefusedRightly (s : Store) (call : Call) (a : Answered) (s' : Store) : Type 0 where
+  pub reason : (rule : Rule) → a ≡ Err (refused_by rule) → Refuses s call rule
+  pub always : (rule : Rule) → Refuses s call rule → a ≡ Err (refused_by rule)
   pub nothing : (rule : Rule) → Refuses s call rule → s' ≡ s
 
 -- no two of these rows are equal

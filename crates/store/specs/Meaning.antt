@@ -5,6 +5,7 @@ use Rattle.fault.specs.declared.rules.Fault.{Fault}
 use Rattle.fault.specs.declared.rules.Rule.{Rule}
 use Rattle.fault.specs.declared.rules.Rule.TheVariants.{NoCellsLeft, TooManyTables, WidthOutside, NoSuchPlace}
 use Rattle.fault.specs.Limits.{columns, tables}
+use Rattle.fault.specs.Places.{nowhere}
 
 abbrev pub Row : Type 0
 Row = List ℤ
@@ -81,7 +82,7 @@ inserted t r = record { width = t.width; rows = insert t.rows r }
 
 -- A store's refusal names its rule and no place.
 abbrev pub refused_by : Rule → Fault
-refused_by rule = record { rule = rule; line = 0; byte = 0 }
+refused_by rule = record { rule = rule; place = nowhere }
 
 abbrev pub Reply : Type 0
 Reply = Result (Unit {0}) Fault

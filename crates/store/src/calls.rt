@@ -1,6 +1,6 @@
 // The calls of a store as values: what a list of them comes to, over any store, and what no list of them can bring about.
 ghost use Rattle.std.specs.Prelude.{◌≡◌};
-ghost use Rattle.store.specs.Calls.{after, after_all, answer, accepted_answer, number_answer, value_answer};
+ghost use Rattle.store.specs.Calls.{after, after_all, answer};
 ghost use Rattle.store.specs.Laws.{RefusedRightly, Lawful, StoreLaws};
 
 use crate::row_store::RowStore;
@@ -21,62 +21,35 @@ pub enum Call {
     Cell(u16, u16, u16),
 }
 
-// What a call is answered by: a call that changes the store by `Accepted`, a question by what it asks for, either by a refusal.
-#[derive(Clone, Copy)]
+// What an accepted call is answered by: one that changes the store by `Accepted`, a question by what it asks for.
+#[derive(Clone, Copy, Debug, PartialEq, Eq)]
 pub enum Answer {
     Accepted,
     Number(u16),
     Value(i64),
-    Refused(Fault),
 }
 
-fn accepted(reply: Result<(), Fault>) -> Answer
-    ensures { result ≡ accepted_answer reply }
-{
-    match reply {
-        Ok(()) => Answer::Accepted,
-        Err(fault) => Answer::Refused(fault),
-    }
-}
-
-fn numbered(reply: Result<u16, Fault>) -> Answer
-    ensures { result ≡ number_answer reply }
-{
-    match reply {
-        Ok(number) => Answer::Number(number),
-        Err(fault) => Answer::Refused(fault),
-    }
-}
-
-fn valued(reply: Result<i64, Fault>) -> Answer
-    ensures { result ≡ value_answer reply }
-{
-    match reply {
-        Ok(value) => Answer::Value(value),
-        Err(fault) => Answer::Refused(fault),
-    }
-}
-
-fn dispatch<S: RowStore>(store: &mut S, call: &Call) -> Answer
+// The one match on which call to make: a call comes as data, since a caller may have read it from a text.
+fn dispatch<S: RowStore>(store: &mut S, call: &Call) -> Result<Answer, Fault>
     ensures reply { result ≡ answer (S.RowStore.meaning store.old) call.now }
     ensures after { S.RowStore.meaning store.new ≡ after (S.RowStore.meaning store.old) call.now }
 {
     match call {
-        Call::Open(width) => accepted(store.open(*width)),
-        Call::Add(row) => accepted(store.add(row)),
-        Call::Drop => accepted(store.drop_last()),
-        Call::Settle(table) => accepted(store.settle(*table)),
-        Call::Capacity => Answer::Number(store.capacity()),
-        Call::CellsLeft => Answer::Number(store.cells_left()),
-        Call::TableCount => Answer::Number(store.table_count()),
-        Call::Width(table) => numbered(store.width(*table)),
-        Call::RowCount(table) => numbered(store.row_count(*table)),
-        Call::Cell(table, row, column) => valued(store.cell(*table, *row, *column)),
+        Call::Open(width) => store.open(*width).map(|()| Answer::Accepted),
+        Call::Add(row) => store.add(row).map(|()| Answer::Accepted),
+        Call::Drop => store.drop_last().map(|()| Answer::Accepted),
+        Call::Settle(table) => store.settle(*table).map(|()| Answer::Accepted),
+        Call::Capacity => Ok(Answer::Number(store.capacity())),
+        Call::CellsLeft => Ok(Answer::Number(store.cells_left())),
+        Call::TableCount => Ok(Answer::Number(store.table_count())),
+        Call::Width(table) => store.width(*table).map(Answer::Number),
+        Call::RowCount(table) => store.row_count(*table).map(Answer::Number),
+        Call::Cell(table, row, column) => store.cell(*table, *row, *column).map(Answer::Value),
     }
 }
 
 // Makes one call. The answer and the store afterwards are those of the meaning; a refusal has one of its reasons and changes nothing.
-pub fn perform<S: RowStore>(store: &mut S, call: &Call) -> Answer
+pub fn perform<S: RowStore>(store: &mut S, call: &Call) -> Result<Answer, Fault>
     ensures reply { result ≡ answer (S.RowStore.meaning store.old) call.now }
     ensures after { S.RowStore.meaning store.new ≡ after (S.RowStore.meaning store.old) call.now }
     ensures refused { RefusedRightly (S.RowStore.meaning store.old) call.now result (S.RowStore.meaning store.new) }
@@ -95,8 +68,6 @@ pub fn perform_all<S: RowStore>(store: &mut S, calls: &[Call])
 }
 
 // The laws of the meaning itself, for callers that reason about a store without having one.
-pub fn store_laws_stand() -> u8
+pub fn store_laws_stand()
     ensures { StoreLaws }
-{
-    0
-}
+{}

@@ -1,15 +1,11 @@
-// How a store refuses: the rule alone, since a store knows no text. Line and byte are 0.
+// How a store refuses: the rule alone, since a store knows no text.
 ghost use Rattle.std.specs.Prelude.{◌≡◌};
 ghost use Rattle.store.specs.Meaning.{refused_by};
 
-use fault::{Fault, Rule};
+use fault::{Fault, Place, Rule};
 
 pub fn refuse(rule: Rule) -> Fault
     ensures { result ≡ refused_by rule }
 {
-    Fault {
-        rule,
-        line: 0,
-        byte: 0,
-    }
+    Place::NOWHERE.fault(rule)
 }

@@ -1,19 +1,18 @@
-// How an answer is told in one line: `accepted`, a number, or the fault of a refusal.
+// How an accepted call's answer is told in one line: `accepted`, or a number. A refusal is told by its fault.
 ghost use Rattle.std.specs.Prelude.{Some};
-ghost use Rattle.store.specs.Shown.{answer_line};
+ghost use Rattle.store.specs.Shown.{accepted_line};
 
 use crate::calls::Answer;
 use std::fmt;
 
 impl fmt::Display for Answer {
-    ghost output = { λ x. Some (answer_line x) };
+    ghost output = { λ x. Some (accepted_line x) };
 
     fn fmt<W: fmt::Write>(&self, f: &mut fmt::Formatter<W>) -> fmt::Result {
         match self {
             Answer::Accepted => write!(f, "accepted"),
             Answer::Number(number) => write!(f, "{number}"),
             Answer::Value(value) => write!(f, "{value}"),
-            Answer::Refused(fault) => write!(f, "{fault}"),
         }
     }
 }

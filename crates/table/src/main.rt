@@ -38,23 +38,20 @@ fn tell(rt: &HostRuntime, name: &str, tally: Tally) -> anyhow::Result<()> {
 fn show_place(rt: &HostRuntime, text: &[u8], byte: usize) -> anyhow::Result<()> {
     let start = line_start(text, byte);
     let end = line_end(text, byte);
-    let mut line = String::new(rt.alloc());
-    for b in &text[start..end] {
-        line.push(shown(*b))?;
-    }
-    let mut caret = String::new(rt.alloc());
-    for _ in start..byte.min(text.len()) {
-        caret.push(' ')?;
-    }
+    let line: String = text[start..end]
+        .iter()
+        .map(|b| shown(*b))
+        .collect(rt.alloc())?;
+    let before = byte.min(text.len()) - start;
     println!(rt; "{line}")?;
-    println!(rt; "{caret}^")?;
+    println!(rt; "{:before$}^", "")?;
     Ok(())
 }
 
 // A fault in one line, with the script's line and a caret under the place below it.
 fn refuse(rt: &HostRuntime, text: &Text, fault: Fault) -> anyhow::Result<()> {
     println!(rt; "{fault}")?;
-    show_place(rt, text.bytes(), fault.byte as usize)
+    show_place(rt, text.bytes(), fault.place.byte as usize)
 }
 
 // A refusal has been told in full, so it is a status and no error.

@@ -8,7 +8,8 @@ use Rattle.domain.specs.declared.Domain.TheVariants.{Integer, String, Boolean}
 use Rattle.schema.specs.Columns.{Column}
 use Rattle.texts.specs.Formats.{Format, opening, comma, closing}
 use Rattle.texts.specs.Readers.{Reading, Reading.taken, Reading.refused, Reader, first, bind, after, give, either, word, word_on, one, one_on, entries}
-use Rattle.texts.specs.Language.{digit, first_digit, plain, quote, shown_name, kind}
+use Rattle.words.specs.Letters.{digit, plain}
+use Rattle.texts.specs.Language.{first_digit, quote, shown_name, kind}
 use Rattle.texts.specs.Reading.{next, next_digit, further_on, further, read_count, apart, read_integer, read_quoted, read_string, read_boolean, read_value, read_name, read_column, read_heading}
 use Rattle.texts.proofs.Exactness.{Reads, Outcome}
 
@@ -37,10 +38,6 @@ told_after {A = A} L F S f g s x h k = go (f s) (x.reads s) h
     go : (y : Reading A) → Outcome F S f s y → Told L y → Told L (bind y g)
     go (taken a w) o h = k a w o.front o.parts o.text
     go (refused rule r) o h = h
-
-pub told_self : {A : Type 0} (y : Reading A) → Told (λ rule r. y ≡ refused rule r) y
-told_self (taken a r) = tt
-told_self (refused rule r) = refl
 
 -- Readers that refuse by one rule alone.
 abbrev pub Only : {A : Type 0} → Rule → Reader A → Type 0

@@ -5,7 +5,9 @@ use Rattle.domain.specs.declared.Domain.{Domain}
 use Rattle.domain.specs.declared.Domain.TheVariants.{Integer, String, Boolean}
 use Rattle.schema.specs.Columns.{Column}
 use Rattle.texts.specs.Formats.{Entries, opening, comma}
-use Rattle.texts.specs.Language.{all_name_bytes, is_name, shown_name, NameText, kind, ColumnText, HeadingText}
+use Rattle.words.specs.Letters.{name_byte}
+use Rattle.std.specs.List.{list_all}
+use Rattle.texts.specs.Language.{is_name, shown_name, NameText, kind, ColumnText, HeadingText}
 use Rattle.texts.specs.Layers.{has_line_feed}
 
 -- Line feeds: a heading has one, at its end.
@@ -26,7 +28,7 @@ pub record OneLine (p : List ℕ) : Type 0 where
 pub before_line : (a p : List ℕ) → has_line_feed a ≡ false → OneLine p → OneLine (a ++ p)
 before_line a p h o = record { inside = a ++ o.inside; ended = ap (λ z. a ++ z) o.ended ∙ sym (append_assoc a o.inside (10 ∷ [])); plainly = no_feed a o.inside h o.plainly }
 
-pub name_bytes_no_feed : (n : List ℕ) → all_name_bytes n ≡ true → has_line_feed n ≡ false
+pub name_bytes_no_feed : (n : List ℕ) → list_all name_byte n ≡ true → has_line_feed n ≡ false
 name_bytes_no_feed [] h = refl
 name_bytes_no_feed (b ∷ n) h = let rest = name_bytes_no_feed n (grind (arith, h)) in grind (arith, h, rest)
 

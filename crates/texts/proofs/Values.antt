@@ -7,7 +7,9 @@ use Rattle.domain.specs.declared.Domain.{Domain}
 use Rattle.domain.specs.declared.Domain.TheVariants.{Integer, String, Boolean}
 use Rattle.texts.specs.Formats.{Word, One, After, Given, Either}
 use Rattle.texts.specs.Readers.{Reading, Reading.taken, Reading.refused, first, after, word}
-use Rattle.texts.specs.Language.{Value.integer, Value.string, Value.boolean, digit, first_digit, all_digits, worth, most, least, FurtherDigits, CountText, IntegerText, quote, plain, all_plain, QuotedText, StringText, BooleanText, ValueText}
+use Rattle.words.specs.Letters.{digit, plain}
+use Rattle.std.specs.List.{list_all}
+use Rattle.texts.specs.Language.{Value.integer, Value.string, Value.boolean, first_digit, worth, most, least, FurtherDigits, CountText, IntegerText, quote, QuotedText, StringText, BooleanText, ValueText}
 use Rattle.texts.specs.Reading.{next, next_digit, further_on, further, read_count, apart, read_integer, read_quoted, read_string, read_boolean, read_value}
 use Rattle.texts.specs.Layers.{may_end}
 use Rattle.texts.proofs.Exactness.{Reads, Outcome, anywhere, from_some, exact_same, reads_until, after_reads, give_reads, either_reads, one_reads, word_reads, Leads, word_leads, one_leads, after_leads, give_leads, either_leads}
@@ -28,20 +30,20 @@ further_reads limit n h = record { reads = λ s. takes s n h; complete = λ m p 
     whole [] n m (b ∷ r) t e = ap (λ z. further_on z (leb (n * 10 + (b - 48)) limit) n b r (further limit (n * 10 + (b - 48)) r)) e ∙ ap (λ z. taken z (b ∷ r)) (sym t.1)
     whole (b ∷ p) n m r t e =
         let d : digit b ≡ true = grind (arith, t.0) in
-        let ds : all_digits p ≡ true = grind (arith, t.0) in
+        let ds : list_all digit p ≡ true = grind (arith, t.0) in
         let fit : leb (n * 10 + (b - 48)) limit ≡ true = grind (arith, t.1, t.2, worth_least (n * 10 + (b - 48)) p) in
         ap₂ (λ x y. further_on x y n b (p ++ r) (further limit (n * 10 + (b - 48)) (p ++ r))) d fit
         ∙ whole p (n * 10 + (b - 48)) m r (ds, t.1, t.2) e
 
     longer : (b n : ℕ) (s : List ℕ) → digit b ≡ true → leb (n * 10 + (b - 48)) limit ≡ true → (x : Reading ℕ) →
         Outcome (FurtherDigits limit (n * 10 + (b - 48))) no_digit (further limit (n * 10 + (b - 48))) s x → Outcome (FurtherDigits limit n) no_digit (further limit n) (b ∷ s) x
-    longer b n s d fit (taken m r) o = record { front = b ∷ o.front; parts = ap (λ z. b ∷ z) o.parts; text = (ap (λ z. z && all_digits o.front) d ∙ o.text.0, o.text.1, o.text.2); stops = o.stops }
+    longer b n s d fit (taken m r) o = record { front = b ∷ o.front; parts = ap (λ z. b ∷ z) o.parts; text = (ap (λ z. z && list_all digit o.front) d ∙ o.text.0, o.text.1, o.text.2); stops = o.stops }
     longer b n s d fit (refused l r) o = record {
       front = b ∷ o.front;
       parts = ap (λ z. b ∷ z) o.parts;
       rest = o.rest;
       value = o.value;
-      text = (ap (λ z. z && all_digits (o.front ++ o.rest)) d ∙ o.text.0, o.text.1, o.text.2);
+      text = (ap (λ z. z && list_all digit (o.front ++ o.rest)) d ∙ o.text.0, o.text.1, o.text.2);
       again = λ u e. ap₂ (λ x y. further_on x y n b (o.front ++ u) (further limit (n * 10 + (b - 48)) (o.front ++ u))) d fit ∙ o.again u e;
     }
 
@@ -110,7 +112,7 @@ no_bytes (c ∷ bytes) p t = absurd (omega (arith, t.1))
 
 one_byte_more : (n : ℕ) (bytes p : List ℕ) → After (One plain) (λ b. Given (λ more. b ∷ more) (QuotedText n)) bytes p → QuotedText (suc n) bytes p
 one_byte_more n bytes p t = subst (λ z. QuotedText (suc n) z p) (sym t.ends.is)
-    (ap (λ z. z && all_plain t.ends.value) t.begins.1 ∙ t.ends.text.0, omega (arith, t.ends.text.1), t.parts ∙ ap₂ (λ x y. x ++ y) t.begins.0 t.ends.text.2)
+    (ap (λ z. z && list_all plain t.ends.value) t.begins.1 ∙ t.ends.text.0, omega (arith, t.ends.text.1), t.parts ∙ ap₂ (λ x y. x ++ y) t.begins.0 t.ends.text.2)
 
 by_first_byte : (n : ℕ) (bytes p : List ℕ) → QuotedText (suc n) bytes p → Either (Word quote []) (After (One plain) (λ b. Given (λ more. b ∷ more) (QuotedText n))) bytes p
 by_first_byte n [] p t = inl (refl, t.2)

@@ -8,7 +8,9 @@ use Rattle.domain.specs.declared.Domain.{Domain}
 use Rattle.domain.specs.declared.Domain.TheVariants.{Integer, String, Boolean}
 use Rattle.schema.specs.Columns.{Column}
 use Rattle.texts.specs.Formats.{Word, Many, Entries, opening, comma}
-use Rattle.texts.specs.Language.{Value, Value.integer, Value.string, Value.boolean, most, least, worth, all_digits, CountText, IntegerText, BooleanText, ValueText, shown_name, NameText, kind, ColumnText, HeadingText, RowText, domains, ending, TableText, AtomText}
+use Rattle.words.specs.Letters.{digit}
+use Rattle.std.specs.List.{list_all}
+use Rattle.texts.specs.Language.{Value, Value.integer, Value.string, Value.boolean, most, least, worth, CountText, IntegerText, BooleanText, ValueText, shown_name, NameText, kind, ColumnText, HeadingText, RowText, domains, ending, TableText, AtomText}
 use Rattle.texts.specs.Reading.{read_table, read_atom}
 use Rattle.texts.specs.Lines.{value_bytes, bytes_of_name, column_bytes, entries_bytes, heading_line, row_line, row_lines, table_lines, atom_line}
 use Rattle.texts.specs.Roundtrip.{Fits, RowFits, RowsFit, TablesReadBack, AtomsReadBack, OneText}
@@ -17,10 +19,10 @@ use Rattle.texts.proofs.Listings.{table_reads, atom_reads}
 use Rattle.texts.proofs.Values.{worth_least}
 
 -- digits, and the number that they write, in this crate's words
-own : IsNumeralModel (λ ds. all_digits ds ≡ true) (worth 0)
+own : IsNumeralModel (λ ds. list_all digit ds ≡ true) (worth 0)
 own = numerals_by_fold _ (search rules) worth (search rules)
 
-count_from : (limit n : ℕ) (ds : List ℕ) → all_digits ds ≡ true → 48 < get_or ds 0 0 → n ≡ worth 0 ds → n ≤ limit → CountText limit n ds
+count_from : (limit n : ℕ) (ds : List ℕ) → list_all digit ds ≡ true → 48 < get_or ds 0 0 → n ≡ worth 0 ds → n ≤ limit → CountText limit n ds
 count_from limit n [] d h e k = absurd (omega (arith, h))
 count_from limit n (b ∷ ds) d h e k = record {
   value = b;
@@ -150,7 +152,7 @@ atoms_read_back d v h = ((exact (AtomText d) (read_atom d) (atom_reads d)).accep
 count_only : (limit n : ℕ) (p : List ℕ) → limit < 2 ^ 64 → CountText limit n p → (p ≡ decimal n) × (n ≤ limit) × (0 < n)
 count_only limit n p small t =
     let whole : p ≡ t.value ∷ t.back = t.parts ∙ ap (λ z. z ++ t.back) t.begins.0 in
-    let digits : all_digits (t.value ∷ t.back) ≡ true = grind (arith, t.begins.1, t.ends.0) in
+    let digits : list_all digit (t.value ∷ t.back) ≡ true = grind (arith, t.begins.1, t.ends.0) in
     let value : worth 0 (t.value ∷ t.back) ≡ n = sym (t.ends.1 ∙ ap (λ z. worth z t.back) (omega arith)) in
     let written : decimal (worth 0 (t.value ∷ t.back)) ≡ t.value ∷ t.back = decimal-digits_value own (t.value ∷ t.back) digits (omega arith) (λ e. absurd (grind (arith, t.begins.1, e))) (omega (arith, value, t.ends.2)) in
     (whole ∙ (sym written ∙ ap decimal value), t.ends.2, grind (arith, t.begins.1, t.ends.1, worth_least (t.value - 48) t.back))

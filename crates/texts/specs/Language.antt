@@ -1,7 +1,10 @@
 -- The right texts: of values, of headings, of rows, of tables and of atoms. This page is the format, with no reader in sight.
+-- Letters, digits, the bytes of names and of strings are those of a script.
 -- A table is its heading, a line for each row, and `end`; an atom is one line. Every line ends in a line feed.
-use Rattle.std.specs.Prelude.{◌≡◌, ℕ, suc, ◌+◌, ◌-◌, ◌*◌, ◌≤◌, Bool, true, false, cond, not, ◌&&◌, ◌||◌, List, [], ◌∷◌, ◌++◌, length, ℤ, pos, neg_ℤ, Some, None, codes, Option, ◌==◌, nat_le}
+use Rattle.std.specs.Prelude.{◌≡◌, ℕ, suc, ◌+◌, ◌-◌, ◌*◌, ◌≤◌, Bool, true, false, cond, ◌&&◌, List, [], ◌∷◌, ◌++◌, length, ℤ, pos, neg_ℤ, Some, None, codes, Option, nat_le}
 use Rattle.fault.specs.Limits.{string_bytes, name_bytes, integer_max}
+use Rattle.words.specs.Letters.{letter, digit, name_byte, plain}
+use Rattle.std.specs.List.{list_all}
 use Rattle.domain.specs.declared.Domain.{Domain}
 use Rattle.domain.specs.declared.Domain.TheVariants.{Integer, String, Boolean}
 use Rattle.domain.specs.Domains.{letter_of}
@@ -16,15 +19,8 @@ pub data Value : Type 0 where
 
 -- Integers: digits without needless zeros, a minus before a number below zero.
 
-abbrev pub digit : ℕ → Bool
-digit b = nat_le 48 b && nat_le b 57
-
 abbrev pub first_digit : ℕ → Bool
 first_digit b = nat_le 49 b && nat_le b 57
-
-abbrev pub all_digits : List ℕ → Bool
-all_digits [] = true
-all_digits (b ∷ p) = digit b && all_digits p
 
 -- the number that digits write behind the number n
 abbrev pub worth : ℕ → List ℕ → ℕ
@@ -40,7 +36,7 @@ least = integer_max + 1
 
 -- further digits behind the number n, while the number stays within the limit
 abbrev pub FurtherDigits : ℕ → ℕ → Format ℕ
-FurtherDigits limit n m p = (all_digits p ≡ true) × (m ≡ worth n p) × (m ≤ limit)
+FurtherDigits limit n m p = (list_all digit p ≡ true) × (m ≡ worth n p) × (m ≤ limit)
 
 -- a number from 1 to the limit: a digit from 1 to 9, then further digits
 abbrev pub CountText : ℕ → Format ℕ
@@ -56,19 +52,12 @@ IntegerText =
 abbrev pub quote : List ℕ
 quote = codes "\""
 
-abbrev pub plain : ℕ → Bool
-plain b = nat_le 32 b && (not (b == 34) && not (b == 127))
-
-abbrev pub all_plain : List ℕ → Bool
-all_plain [] = true
-all_plain (b ∷ p) = plain b && all_plain p
-
 -- at most n plain bytes, and the closing quote
 abbrev pub QuotedText : ℕ → Format (List ℕ)
-QuotedText n bytes p = (all_plain bytes ≡ true) × (length bytes ≤ n) × (p ≡ bytes ++ quote)
+QuotedText n bytes p = (list_all plain bytes ≡ true) × (length bytes ≤ n) × (p ≡ bytes ++ quote)
 
 abbrev pub StringText : Format (List ℕ)
-StringText bytes p = (all_plain bytes ≡ true) × (length bytes ≤ string_bytes) × (p ≡ quote ++ (bytes ++ quote))
+StringText bytes p = (list_all plain bytes ≡ true) × (length bytes ≤ string_bytes) × (p ≡ quote ++ (bytes ++ quote))
 
 -- Booleans.
 
@@ -83,20 +72,10 @@ ValueText Boolean = Given boolean BooleanText
 
 -- Headings: each column by its name, or `?`, a colon and the letter of its domain.
 
-abbrev pub letter : ℕ → Bool
-letter b = (nat_le 65 b && nat_le b 90) || (nat_le 97 b && nat_le b 122)
-
-abbrev pub name_byte : ℕ → Bool
-name_byte b = letter b || (digit b || b == 95)
-
-abbrev pub all_name_bytes : List ℕ → Bool
-all_name_bytes [] = true
-all_name_bytes (b ∷ n) = name_byte b && all_name_bytes n
-
 -- a letter, then letters, digits and underscores
 abbrev pub is_name : List ℕ → Bool
 is_name [] = false
-is_name (b ∷ n) = letter b && (all_name_bytes n && nat_le (suc (length n)) name_bytes)
+is_name (b ∷ n) = letter b && (list_all name_byte n && nat_le (suc (length n)) name_bytes)
 
 -- the name that a heading has for a column; bytes that are no name are none
 abbrev pub shown_name : Option (List ℕ) → Option (List ℕ)

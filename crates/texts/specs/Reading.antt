@@ -4,11 +4,12 @@ use Rattle.std.specs.Prelude.{ℕ, zero, suc, ◌+◌, ◌-◌, ◌*◌, Bool, t
 use Rattle.std.proofs.Math.Option as optional
 use Rattle.fault.specs.Limits.{string_bytes}
 use Rattle.fault.specs.declared.rules.Rule.TheVariants.{WrongHeading, WrongRow, WrongCell}
+use Rattle.words.specs.Letters.{digit, plain}
 use Rattle.domain.specs.declared.Domain.{Domain}
 use Rattle.domain.specs.declared.Domain.TheVariants.{Integer, String, Boolean}
 use Rattle.schema.specs.Columns.{Column}
 use Rattle.texts.specs.Readers.{Reading, Reading.taken, Reading.refused, Reader, first, after, give, either, one, word, finish, many, line}
-use Rattle.texts.specs.Language.{Value, Value.integer, Value.string, Value.boolean, digit, first_digit, most, least, quote, plain, shown_name, kind, domains, ending}
+use Rattle.texts.specs.Language.{Value, Value.integer, Value.string, Value.boolean, first_digit, most, least, quote, shown_name, kind, domains, ending}
 
 -- whether the next byte is b
 abbrev pub next : ℕ → optional.Option ℕ → Bool

@@ -3,11 +3,13 @@
 use Rattle.std.specs.Prelude.{◌≡◌, ℕ, ◌≤◌, true, List, [], ◌∷◌, length}
 use Rattle.std.specs.Int.Signed.{mag}
 use Rattle.fault.specs.Limits.{string_bytes}
+use Rattle.words.specs.Letters.{plain}
+use Rattle.std.specs.List.{list_all}
 use Rattle.domain.specs.declared.Domain.{Domain}
 use Rattle.domain.specs.declared.Domain.TheVariants.{Integer, String, Boolean}
 use Rattle.schema.specs.Columns.{Column}
 use Rattle.texts.specs.Readers.{Reading.taken}
-use Rattle.texts.specs.Language.{Value, Value.integer, Value.string, Value.boolean, most, all_plain, domains, ValueText}
+use Rattle.texts.specs.Language.{Value, Value.integer, Value.string, Value.boolean, most, domains, ValueText}
 use Rattle.texts.specs.Reading.{read_table, read_atom}
 use Rattle.texts.specs.Lines.{value_bytes, table_lines, atom_line}
 
@@ -17,7 +19,7 @@ Fits Integer (integer z) = mag z ≤ most
 Fits Integer (string s) = ⊥
 Fits Integer (boolean b) = ⊥
 Fits String (integer z) = ⊥
-Fits String (string s) = (all_plain s ≡ true) × (length s ≤ string_bytes)
+Fits String (string s) = (list_all plain s ≡ true) × (length s ≤ string_bytes)
 Fits String (boolean b) = ⊥
 Fits Boolean (integer z) = ⊥
 Fits Boolean (string s) = ⊥

@@ -8,7 +8,7 @@ ghost use Rattle.texts.specs.Roundtrip.{TablesReadBack, AtomsReadBack, OneText};
 
 // The promise of the format: which texts are accepted, where and by which layer any other is refused,
 // and that what is written reads back.
-pub fn texts_stand() -> u8
+pub fn texts_stand()
     ensures tables { TablesExact }
     ensures atoms { AtomsExact }
     ensures table_layers { TablesByLayer }
@@ -16,6 +16,4 @@ pub fn texts_stand() -> u8
     ensures tables_back { TablesReadBack }
     ensures atoms_back { AtomsReadBack }
     ensures one_text { OneText }
-{
-    0
-}
+{}

@@ -1,5 +1,5 @@
 -- What an arena holds, another holds that agrees with it so far; and two lists in a row, linked, are one.
-use Rattle.std.proofs.Common.{◌≡◌, ℕ, suc, ◌<◌, ◌≤◌, List, [], ◌∷◌, ◌++◌, sym, ◌∙◌, subst, arith}
+use Rattle.std.proofs.Common.{◌≡◌, ℕ, suc, ◌<◌, ◌≤◌, List, [], ◌∷◌, ◌++◌, Some, sym, ◌∙◌, subst, arith}
 use mathlib.Core.Option.{none, some}
 use Rattle.words.specs.Tokens.{Bytes, Place}
 use Rattle.grammar.specs.Parts.{append_statements}
@@ -49,40 +49,43 @@ Ordered {A} H = (ns : List Node) (from i : ℕ) (x : A) → H ns from i x → fr
 pub chain_order : {A : Type 0} (H : Holder A) → Ordered H → (ns : List Node) (from last first : ℕ) (l : List A) → Chained H ns from last first l → (from ≤ first) × (first ≤ last)
 chain_order H o ns from last first [] h = absurd h
 chain_order H o ns from last first (x ∷ []) (a, e, z) = (o ns from first x a, omega (arith, e))
-chain_order H o ns from last first (x ∷ y ∷ l) (a, lt, h) = let r = chain_order H o ns (suc first) last _ (y ∷ l) h in (o ns from first x a, omega (arith, r.1, lt))
+chain_order H o ns from last first (x ∷ y ∷ l) (i, a, e, lt, h) = let r = chain_order H o ns (suc first) last i (y ∷ l) h in (o ns from first x a, omega (arith, r.1, lt))
 
 pub chain_stable : {A : Type 0} (H : Holder A) → Ordered H → Stable H → (xs ys : List Node) (from last first : ℕ) (l : List A) → Firm from (suc last) xs ys → Chained H xs from last first l → Chained H ys from last first l
 chain_stable H o s xs ys from last first [] g h = absurd h
 chain_stable H o s xs ys from last first (x ∷ []) g (a, e, z) =
     let r = o xs from first x a in
     (s xs ys from first x (firm_agree from (suc last) from (suc first) xs ys (omega arith) (omega (arith, e)) g) a, e, g.linked first r (omega (arith, e)) ∙ z)
-chain_stable H o s xs ys from last first (x ∷ y ∷ l) g (a, lt, h) =
+chain_stable H o s xs ys from last first (x ∷ y ∷ l) g (i, a, e, lt, h) =
     let r = o xs from first x a in
-    let q = chain_order H o xs (suc first) last _ (y ∷ l) h in
-    let e = g.linked first r (omega (arith, q.1, lt)) in (
+    let q = chain_order H o xs (suc first) last i (y ∷ l) h in (
+      i,
       s xs ys from first x (firm_agree from (suc last) from (suc first) xs ys (omega arith) (omega (arith, q.1, lt)) g) a,
-      subst (λ i. first < i) (sym e) lt,
-      subst (λ i. Chained H ys (suc first) last i (y ∷ l)) (sym e) (chain_stable H o s xs ys (suc first) last _ (y ∷ l) (firm_part from (suc last) (suc first) (suc last) xs ys (omega (arith, r)) (omega arith) g) h),
+      g.linked first r (omega (arith, q.1, lt)) ∙ e,
+      lt,
+      chain_stable H o s xs ys (suc first) last i (y ∷ l) (firm_part from (suc last) (suc first) (suc last) xs ys (omega (arith, r)) (omega arith) g) h,
     )
 
 -- a list, and one behind it whose first root the last element of the other names
 pub chain_append : {A : Type 0} (H : Holder A) → Ordered H → Stable H → (xs ys : List Node) (from last first end next : ℕ) (l m : List A) →
-    Agree from (suc last) xs ys → (node_at ys last).next ≡ next → last < next → Chained H xs from last first l → Chained H ys (suc last) end next m → Chained H ys from end first (l ++ m)
+    Agree from (suc last) xs ys → (node_at ys last).next ≡ Some next → last < next → Chained H xs from last first l → Chained H ys (suc last) end next m → Chained H ys from end first (l ++ m)
 chain_append H o s xs ys from last first end next [] m g n lt h k = absurd h
 chain_append H o s xs ys from last first end next (x ∷ []) [] g n lt h k = absurd k
 chain_append H o s xs ys from last first end next (x ∷ []) (y ∷ m) g n lt (a, e, z) k = (
+  next,
   s xs ys from first x (agree_part from (suc last) from (suc first) xs ys (omega arith) (omega (arith, e)) g) a,
-  subst (λ i. first < (node_at ys i).next) (sym e) (subst (λ i. first < i) (sym n) (omega (arith, e))),
-  subst (λ i. Chained H ys (suc i) end (node_at ys i).next (y ∷ m)) (sym e) (subst (λ i. Chained H ys (suc last) end i (y ∷ m)) (sym n) k),
+  subst (λ i. (node_at ys i).next ≡ Some next) (sym e) n,
+  omega (arith, e),
+  subst (λ i. Chained H ys (suc i) end next (y ∷ m)) (sym e) k,
 )
-chain_append H o s xs ys from last first end next (x ∷ y ∷ l) m g n lt (a, b, h) k =
+chain_append H o s xs ys from last first end next (x ∷ y ∷ l) m g n lt (i, a, e, b, h) k =
     let r = o xs from first x a in
-    let q = chain_order H o xs (suc first) last _ (y ∷ l) h in
-    let e = g.linked first r (omega (arith, q.1, b)) in (
+    let q = chain_order H o xs (suc first) last i (y ∷ l) h in (
+      i,
       s xs ys from first x (agree_part from (suc last) from (suc first) xs ys (omega arith) (omega (arith, q.1, b)) g) a,
-      subst (λ i. first < i) (sym e) b,
-      subst (λ i. Chained H ys (suc first) end i (y ∷ (l ++ m))) (sym e)
-          (chain_append H o s xs ys (suc first) last _ end next (y ∷ l) m (agree_part from (suc last) (suc first) (suc last) xs ys (omega (arith, r)) (omega arith) g) n lt h k),
+      g.linked first r (omega (arith, q.1, b)) ∙ e,
+      b,
+      chain_append H o s xs ys (suc first) last i end next (y ∷ l) m (agree_part from (suc last) (suc first) (suc last) xs ys (omega (arith, r)) (omega arith) g) n lt h k,
     )
 
 module _ (text : Bytes) where
@@ -467,8 +470,8 @@ module _ (text : Bytes) where
     pub statements_order : (ns : List Node) (from last first : ℕ) (b : Statements) → HoldsStatements text ns from last first b → (from ≤ first) × (first ≤ last)
     statements_order ns from last first no_statement h = absurd h
     statements_order ns from last first (a followed_by no_statement) (x, e, z) = (statement_order ns from first a x, omega (arith, e))
-    statements_order ns from last first (a followed_by (b followed_by c)) (x, lt, h) =
-        let r = statements_order ns (suc first) last _ (b followed_by c) h in (statement_order ns from first a x, omega (arith, r.1, lt))
+    statements_order ns from last first (a followed_by (b followed_by c)) (i, x, e, lt, h) =
+        let r = statements_order ns (suc first) last i (b followed_by c) h in (statement_order ns from first a x, omega (arith, r.1, lt))
 
     pub block_order : Ordered (HoldsBlock text)
     block_order ns from i (closed_at b q) (f, l, a, e, h) = let o = statements_order ns from l f b a in omega (arith, o.0, o.1, e)
@@ -563,14 +566,14 @@ module _ (text : Bytes) where
     statements_stable xs ys from last first (a followed_by no_statement) g (x, e, z) =
         let r = statement_order xs from first a x in
         (statement_stable xs ys from first a (firm_agree from (suc last) from (suc first) xs ys (omega arith) (omega (arith, e)) g) x, e, g.linked first r (omega (arith, e)) ∙ z)
-    statements_stable xs ys from last first (a followed_by (b followed_by c)) g (x, lt, h) =
+    statements_stable xs ys from last first (a followed_by (b followed_by c)) g (i, x, e, lt, h) =
         let r = statement_order xs from first a x in
-        let q = statements_order xs (suc first) last _ (b followed_by c) h in
-        let e = g.linked first r (omega (arith, q.1, lt)) in (
+        let q = statements_order xs (suc first) last i (b followed_by c) h in (
+          i,
           statement_stable xs ys from first a (firm_agree from (suc last) from (suc first) xs ys (omega arith) (omega (arith, q.1, lt)) g) x,
-          subst (λ i. first < i) (sym e) lt,
-          subst (λ i. HoldsStatements text ys (suc first) last i (b followed_by c)) (sym e)
-              (statements_stable xs ys (suc first) last _ (b followed_by c) (firm_part from (suc last) (suc first) (suc last) xs ys (omega (arith, r)) (omega arith) g) h),
+          g.linked first r (omega (arith, q.1, lt)) ∙ e,
+          lt,
+          statements_stable xs ys (suc first) last i (b followed_by c) (firm_part from (suc last) (suc first) (suc last) xs ys (omega (arith, r)) (omega arith) g) h,
         )
 
     pub block_stable : Stable (HoldsBlock text)
@@ -585,21 +588,23 @@ module _ (text : Bytes) where
 
   -- statements, and others behind them whose first root the last of the former names
   pub statements_append : (xs ys : List Node) (from last first end next : ℕ) (b c : Statements) →
-      Agree from (suc last) xs ys → (node_at ys last).next ≡ next → last < next → HoldsStatements text xs from last first b → HoldsStatements text ys (suc last) end next c →
+      Agree from (suc last) xs ys → (node_at ys last).next ≡ Some next → last < next → HoldsStatements text xs from last first b → HoldsStatements text ys (suc last) end next c →
       HoldsStatements text ys from end first (append_statements b c)
   statements_append xs ys from last first end next no_statement c g n lt h k = absurd h
   statements_append xs ys from last first end next (a followed_by no_statement) no_statement g n lt h k = absurd k
   statements_append xs ys from last first end next (a followed_by no_statement) (b followed_by c) g n lt (x, e, z) k = (
+    next,
     statement_stable xs ys from first a (agree_part from (suc last) from (suc first) xs ys (omega arith) (omega (arith, e)) g) x,
-    subst (λ i. first < (node_at ys i).next) (sym e) (subst (λ i. first < i) (sym n) (omega (arith, e))),
-    subst (λ i. HoldsStatements text ys (suc i) end (node_at ys i).next (b followed_by c)) (sym e) (subst (λ i. HoldsStatements text ys (suc last) end i (b followed_by c)) (sym n) k),
+    subst (λ i. (node_at ys i).next ≡ Some next) (sym e) n,
+    omega (arith, e),
+    subst (λ i. HoldsStatements text ys (suc i) end next (b followed_by c)) (sym e) k,
   )
-  statements_append xs ys from last first end next (a followed_by (b followed_by d)) c g n lt (x, i, h) k =
+  statements_append xs ys from last first end next (a followed_by (b followed_by d)) c g n lt (i, x, e, j, h) k =
       let r = statement_order xs from first a x in
-      let q = statements_order xs (suc first) last _ (b followed_by d) h in
-      let e = g.linked first r (omega (arith, q.1, i)) in (
-        statement_stable xs ys from first a (agree_part from (suc last) from (suc first) xs ys (omega arith) (omega (arith, q.1, i)) g) x,
-        subst (λ j. first < j) (sym e) i,
-        subst (λ j. HoldsStatements text ys (suc first) end j (b followed_by append_statements d c)) (sym e)
-            (statements_append xs ys (suc first) last _ end next (b followed_by d) c (agree_part from (suc last) (suc first) (suc last) xs ys (omega (arith, r)) (omega arith) g) n lt h k),
+      let q = statements_order xs (suc first) last i (b followed_by d) h in (
+        i,
+        statement_stable xs ys from first a (agree_part from (suc last) from (suc first) xs ys (omega arith) (omega (arith, q.1, j)) g) x,
+        g.linked first r (omega (arith, q.1, j)) ∙ e,
+        j,
+        statements_append xs ys (suc first) last i end next (b followed_by d) c (agree_part from (suc last) (suc first) (suc last) xs ys (omega (arith, r)) (omega arith) g) n lt h k,
       )

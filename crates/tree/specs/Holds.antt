@@ -1,9 +1,9 @@
 -- When an arena holds a tree. The nodes of a part lie in one run of entries, from its first to its root, which is the last:
 -- no entry between is anything else, every child lies below its parent, and the run of a child ends where the next one's begins.
-use Rattle.std.specs.Prelude.{◌≡◌, ℕ, suc, ◌<◌, List, [], ◌∷◌, Some, slice_index_or}
+use Rattle.std.specs.Prelude.{◌≡◌, ℕ, suc, ◌<◌, List, [], ◌∷◌, Some, None, slice_index_or}
 use Rattle.std.proofs.Math.Option.{Option, none, some}
 use Rattle.words.specs.Tokens.{Bytes, Place}
-use Rattle.words.specs.Lexing.{place}
+use Rattle.fault.specs.Places.{nowhere}
 use Rattle.words.specs.Spans.{part_of}
 use Rattle.words.specs.declared.spans.Span.{Span}
 use Rattle.grammar.specs.Tree.{Name, Constant, Tuple, AtomicType, Attribute, VariableType, Expression, Statement, Statements, Block}
@@ -20,7 +20,7 @@ use Rattle.tree.specs.declared.nodes.Node.{Node}
 
 -- an entry that holds no node
 abbrev pub empty : Node
-empty = record { what = what.Nothing; line = 0; byte = 0; next = 0 }
+empty = record { what = what.Nothing; place = nowhere; next = None }
 
 abbrev pub node_at : List Node → ℕ → Node
 node_at ns i = slice_index_or ns i empty
@@ -31,7 +31,7 @@ pub record Said : Type 0 where
   pub place : Place
 
 abbrev pub said : Node → Said
-said n = record { what = n.what; place = place n.line n.byte }
+said n = record { what = n.what; place = n.place }
 
 abbrev pub says : What → Place → Said
 says w p = record { what = w; place = p }
@@ -58,9 +58,9 @@ Holder A = List Node → ℕ → ℕ → A → Type 0
 -- the elements of a list: its entries go from the first number to the second, the third is the root of the first element
 abbrev pub Chained : {A : Type 0} → Holder A → List Node → ℕ → ℕ → ℕ → List A → Type 0
 Chained H ns from last first [] = ⊥
-Chained H ns from last first (x ∷ []) = (H ns from first x) × (first ≡ last) × ((node_at ns first).next ≡ 0)
+Chained H ns from last first (x ∷ []) = (H ns from first x) × (first ≡ last) × ((node_at ns first).next ≡ None)
 Chained H ns from last first (x ∷ y ∷ ys) =
-    (H ns from first x) × (first < (node_at ns first).next) × Chained H ns (suc first) last (node_at ns first).next (y ∷ ys)
+    (next : ℕ) × (H ns from first x) × ((node_at ns first).next ≡ Some next) × (first < next) × Chained H ns (suc first) last next (y ∷ ys)
 
 module _ (text : Bytes) where
   -- a name or a string is a part of the text
@@ -151,9 +151,9 @@ module _ (text : Bytes) where
     -- the elements of a list of statements, as those of any list
     pub HoldsStatements : List Node → ℕ → ℕ → ℕ → Statements → Type 0
     HoldsStatements ns from last first no_statement = ⊥
-    HoldsStatements ns from last first (a followed_by no_statement) = (HoldsStatement ns from first a) × (first ≡ last) × ((node_at ns first).next ≡ 0)
+    HoldsStatements ns from last first (a followed_by no_statement) = (HoldsStatement ns from first a) × (first ≡ last) × ((node_at ns first).next ≡ None)
     HoldsStatements ns from last first (a followed_by (b followed_by bs)) =
-        (HoldsStatement ns from first a) × (first < (node_at ns first).next) × HoldsStatements ns (suc first) last (node_at ns first).next (b followed_by bs)
+        (next : ℕ) × (HoldsStatement ns from first a) × ((node_at ns first).next ≡ Some next) × (first < next) × HoldsStatements ns (suc first) last next (b followed_by bs)
 
     -- statements stand at the word that closes them
     pub HoldsBlock : Holder Block

@@ -3,10 +3,11 @@ ghost use Rattle.std.specs.Prelude.{◌≡◌};
 ghost use Rattle.tree.specs.Kinds.{kind_of};
 
 use domain::Domain;
+use fault::Place;
 use words::{Comparison, Logic, Product, Span, Sum};
 
 // A case for each case of the tree, with the indexes of its children in the grammar's order; of a list its first element.
-#[derive(Clone, Copy)]
+#[derive(Clone, Copy, Debug, PartialEq, Eq)]
 pub enum What {
     Nothing,
     Program(u16),
@@ -47,25 +48,23 @@ pub enum What {
     Extended(u16, u16, u16, u16),
 }
 
-// A node: `next` is the element behind it in its list, 0 where there is none.
-#[derive(Clone, Copy)]
+// A node: `next` is the entry of the element behind it in its list.
+#[derive(Clone, Copy, Debug, PartialEq, Eq)]
 pub struct Node {
     pub what: What,
-    pub line: u32,
-    pub byte: u32,
-    pub next: u16,
+    pub place: Place,
+    pub next: Option<u16>,
 }
 
 // An entry of the arena that holds no node.
 pub const EMPTY: Node = Node {
     what: What::Nothing,
-    line: 0,
-    byte: 0,
-    next: 0,
+    place: Place::NOWHERE,
+    next: None,
 };
 
 impl What {
-    // The number of the node's kind, 1 to 29; 0 where there is no node.
+    // The number of the node's kind, 1 to 29; 0 where there is no node. A number, since the rules' format of nodes names their kinds by it.
     pub fn kind(self) -> u8
         ensures { result ≡ kind_of self }
     {

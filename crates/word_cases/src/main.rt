@@ -2,10 +2,12 @@
 // A byte that a line cannot hold is written %XX. The expected output is made from the rules, not from this program.
 #![tactic(auto)]
 
+use fault::Place;
 use std::alloc::{AllocError, Global};
 use std::io::{BufRead, BufReader};
-use words::{Scanner, Text, Token};
+use words::{Lexeme, Scanner, Text, Token};
 
+// The value of a digit. The format has small letters alone, so that `char::to_digit`, which takes both, would read more.
 fn hexadecimal(b: u8) -> u8 {
     match b {
         b'0'..=b'9' => b - b'0',
@@ -63,13 +65,14 @@ fn spelling<'a>(token: Token<'a>) -> &'a [u8] {
 }
 
 // A token as it is told: its kind, its bytes, and its place behind an @.
-fn tell(rt: &HostRuntime, token: Token, line: u32, byte: u32) -> anyhow::Result<()> {
-    let kind = kind(token);
+fn tell(rt: &HostRuntime, lexeme: Lexeme) -> anyhow::Result<()> {
+    let kind = kind(lexeme.token);
     print!(rt; "{kind}")?;
-    for b in spelling(token) {
+    for b in spelling(lexeme.token) {
         let shown = excerpt::shown(*b);
         print!(rt; "{shown}")?;
     }
+    let Place { line, byte } = lexeme.place;
     print!(rt; "@{line}:{byte} ")?;
     Ok(())
 }
@@ -79,15 +82,14 @@ fn tell_all(rt: &HostRuntime, text: &Text) -> anyhow::Result<()> {
     for _ in 0..text.bytes().len() + 1 {
         match scanner.next() {
             Ok(lexeme) => {
-                tell(rt, lexeme.token, lexeme.line, lexeme.byte)?;
-                if let Token::End = lexeme.token {
+                tell(rt, lexeme)?;
+                if lexeme.token == Token::End {
                     break;
                 }
             }
             Err(fault) => {
                 let number = fault.rule.number();
-                let line = fault.line;
-                let byte = fault.byte;
+                let Place { line, byte } = fault.place;
                 print!(rt; "fault {number}@{line}:{byte} ")?;
                 break;
             }

@@ -1,5 +1,5 @@
 -- Whole bytes decide the terminal that they spell: `terminal_of` computes it, so no bytes spell two.
-use Rattle.std.proofs.Common.{◌≡◌, ℕ, ◌<◌, Bool, true, false, cond, ◌&&◌, eqb, leb, [], ◌∷◌, ◌++◌, length, Some, None, Option, sym, refl, ap, ◌∙◌, arith}
+use Rattle.std.proofs.Common.{◌≡◌, ℕ, ◌<◌, Bool, true, false, cond, ◌&&◌, eqb, leb, List, [], ◌∷◌, ◌++◌, length, Some, None, Option, sym, refl, ap, ◌∙◌, arith}
 use Rattle.std.proofs.lemmas.Slice.Eq.{bytes_eq-Decides}
 use Rattle.std.proofs.lemmas.Bool.Decides.{nat_tests}
 use Rattle.std.specs.Str.{bytes_eq}
@@ -18,7 +18,7 @@ use Rattle.words.specs.declared.symbols.Symbol.TheVariants as symbol
 use Rattle.words.specs.Letters.{letter, digit, name_byte, plain, every}
 use Rattle.words.specs.Lexing.{word_or_name, keyword_terminal, symbol_terminal}
 use Rattle.words.specs.Reading.{keyword_spelling, symbol_spelling, Named, Spells}
-use Rattle.words.specs.Spelling.{means, statement_word, operator_word, value_word, or_else, keyword_of, pair_of, single_of}
+use Rattle.words.specs.Spelling.{spellings, spelt_among, keyword_of, pair_of, single_of}
 use Rattle.words.specs.Tokens.{Bytes, Terminal}
 use Rattle.words.specs.Tokens.{Terminal.word, Terminal.domain, Terminal.logic, Terminal.truth, Terminal.sign, Terminal.comparison, Terminal.sum, Terminal.product, Terminal.name, Terminal.integer, Terminal.string, Terminal.broken}
 
@@ -91,64 +91,27 @@ keyword_found (keyword.Logic Or) = refl
 keyword_found (keyword.Truth true) = refl
 keyword_found (keyword.Truth false) = refl
 
--- o names only keywords that s spells
-abbrev Right : Bytes → Option Keyword → Type 0
-Right s o = (k : Keyword) → o ≡ Some k → s ≡ keyword_spelling k
+-- each of these words has its own spelling
+abbrev Spelt : List (Bytes × Keyword) → Type 0
+Spelt [] = Unit {0}
+Spelt (w ∷ ws) = (w.0 ≡ keyword_spelling w.1) × Spelt ws
 
-right_none : (s : Bytes) → Right s None
-right_none s k h = let z : ◌≡◌ {A = ℕ} 0 1 = cc in absurd (omega arith)
+spelt : Spelt spellings
+spelt = (refl, (refl, (refl, (refl, (refl, (refl, (refl, (refl, (refl, (refl, (refl, (refl, (refl, (refl, (refl, (refl, (refl, (refl, (refl, (refl, (refl, (refl, (refl, (refl, (refl, (refl, tt))))))))))))))))))))))))))
 
--- one line of a list of words
-right_one : (s : Bytes) (k : Keyword) (others : Option Keyword) → Right s others → Right s (means s (keyword_spelling k) k others)
-right_one s k others rest j = by (bytes_eq s (keyword_spelling k)) refl
+-- what is found among words that have their own spelling is spelt so
+found_spelt : (ws : List (Bytes × Keyword)) → Spelt ws → (s : Bytes) (k : Keyword) → spelt_among ws s ≡ Some k → s ≡ keyword_spelling k
+found_spelt [] r s k = λ h. let z : ◌≡◌ {A = ℕ} 0 1 = cc in absurd (omega arith)
+found_spelt (w ∷ ws) r s k = by (bytes_eq s w.0) refl (found_spelt ws r.1 s k)
   where
-    by : (x : Bool) → bytes_eq s (keyword_spelling k) ≡ x → cond x (Some k) others ≡ Some j → s ≡ keyword_spelling j
-    by true h g = let same : k ≡ j = cc in (bytes_eq-Decides s (keyword_spelling k)).0 h ∙ ap keyword_spelling same
-    by false h g = rest j g
-
-right_or : (s : Bytes) (a b : Option Keyword) → Right s a → Right s b → Right s (or_else a b)
-right_or s (Some x) b p q = p
-right_or s None b p q = q
-
-right_statement : (s : Bytes) → Right s (statement_word s)
-right_statement s =
-    right_one s (keyword.Word Program) _ (
-    right_one s (keyword.Word End) _ (
-    right_one s (keyword.Word Table) _ (
-    right_one s (keyword.Word If) _ (
-    right_one s (keyword.Word Then) _ (
-    right_one s (keyword.Word Else) _ (
-    right_one s (keyword.Word While) _ (
-    right_one s (keyword.Word Do) _ (
-    right_one s (keyword.Word Read) _ (
-    right_one s (keyword.Word Write) _ (right_none s))))))))))
-
-right_operator : (s : Bytes) → Right s (operator_word s)
-right_operator s =
-    right_one s (keyword.Word Join) _ (
-    right_one s (keyword.Word Not) _ (
-    right_one s (keyword.Word Project) _ (
-    right_one s (keyword.Word Select) _ (
-    right_one s (keyword.Word Exists) _ (
-    right_one s (keyword.Word All) _ (
-    right_one s (keyword.Word Update) _ (
-    right_one s (keyword.Word Extend) _ (
-    right_one s (keyword.Word Rename) _ (right_none s)))))))))
-
-right_value : (s : Bytes) → Right s (value_word s)
-right_value s =
-    right_one s (keyword.Domain Integer) _ (
-    right_one s (keyword.Domain String) _ (
-    right_one s (keyword.Domain Boolean) _ (
-    right_one s (keyword.Logic And) _ (
-    right_one s (keyword.Logic Or) _ (
-    right_one s (keyword.Truth true) _ (
-    right_one s (keyword.Truth false) _ (right_none s)))))))
+    by : (x : Bool) → bytes_eq s w.0 ≡ x → (spelt_among ws s ≡ Some k → s ≡ keyword_spelling k) → cond x (Some w.1) (spelt_among ws s) ≡ Some k → s ≡ keyword_spelling k
+    by true h rest g = let same : w.1 ≡ k = cc in (bytes_eq-Decides s w.0).0 h ∙ (r.0 ∙ ap keyword_spelling same)
+    by false h rest g = rest g
 
 -- a keyword is found only by its spelling
 pub keyword_spelt : (s : Bytes) (k : Keyword) → keyword_of s ≡ Some k → s ≡ keyword_spelling k
 unfolding keyword_of
-keyword_spelt s = right_or s _ _ (right_statement s) (right_or s _ _ (right_operator s) (right_value s))
+keyword_spelt s = found_spelt spellings spelt s
 
 -- what no keyword spells is found as none
 pub keyword_none : (s : Bytes) → ((k : Keyword) → ¬ (s ≡ keyword_spelling k)) → keyword_of s ≡ None

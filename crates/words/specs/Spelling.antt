@@ -1,5 +1,5 @@
 -- How words and signs are spelt: the 26 words and the 19 signs, each once.
-use Rattle.std.specs.Prelude.{ℕ, true, false, cond, ◌&&◌, [], ◌∷◌, Some, None, codes, Option, ◌==◌}
+use Rattle.std.specs.Prelude.{ℕ, true, false, cond, ◌&&◌, List, [], ◌∷◌, Some, None, codes, Option, ◌==◌}
 use Rattle.std.specs.Str.{bytes_eq}
 use Rattle.domain.specs.declared.Domain.TheVariants.{Integer, String, Boolean}
 use Rattle.words.specs.declared.tokens.Word.TheVariants.{Program, End, Table, If, Then, Else, While, Do, Read, Write, Join, Not, Project, Select, Exists, All, Update, Extend, Rename}
@@ -14,58 +14,44 @@ use Rattle.words.specs.declared.symbols.Symbol.{Symbol}
 use Rattle.words.specs.declared.symbols.Symbol.TheVariants as symbol
 use Rattle.words.specs.Tokens.{Bytes}
 
--- k where s is this spelling, else what the others give
-abbrev pub means : Bytes → Bytes → Keyword → Option Keyword → Option Keyword
-means s spelling k others = cond (bytes_eq s spelling) (Some k) others
+-- the 26 words: of programs and statements, of operators, of domains, connectives and truth values
+abbrev pub spellings : List (Bytes × Keyword)
+spellings =
+    (codes "program", keyword.Word Program) ∷
+    (codes "end", keyword.Word End) ∷
+    (codes "table", keyword.Word Table) ∷
+    (codes "if", keyword.Word If) ∷
+    (codes "then", keyword.Word Then) ∷
+    (codes "else", keyword.Word Else) ∷
+    (codes "while", keyword.Word While) ∷
+    (codes "do", keyword.Word Do) ∷
+    (codes "read", keyword.Word Read) ∷
+    (codes "write", keyword.Word Write) ∷
+    (codes "join", keyword.Word Join) ∷
+    (codes "not", keyword.Word Not) ∷
+    (codes "project", keyword.Word Project) ∷
+    (codes "select", keyword.Word Select) ∷
+    (codes "exists", keyword.Word Exists) ∷
+    (codes "all", keyword.Word All) ∷
+    (codes "update", keyword.Word Update) ∷
+    (codes "extend", keyword.Word Extend) ∷
+    (codes "rename", keyword.Word Rename) ∷
+    (codes "integer", keyword.Domain Integer) ∷
+    (codes "string", keyword.Domain String) ∷
+    (codes "boolean", keyword.Domain Boolean) ∷
+    (codes "and", keyword.Logic And) ∷
+    (codes "or", keyword.Logic Or) ∷
+    (codes "true", keyword.Truth true) ∷
+    (codes "false", keyword.Truth false) ∷ []
 
--- the words of programs and statements
-abbrev pub statement_word : Bytes → Option Keyword
-statement_word s =
-    (means s (codes "program") (keyword.Word Program)
-    (means s (codes "end") (keyword.Word End)
-    (means s (codes "table") (keyword.Word Table)
-    (means s (codes "if") (keyword.Word If)
-    (means s (codes "then") (keyword.Word Then)
-    (means s (codes "else") (keyword.Word Else)
-    (means s (codes "while") (keyword.Word While)
-    (means s (codes "do") (keyword.Word Do)
-    (means s (codes "read") (keyword.Word Read)
-    (means s (codes "write") (keyword.Word Write)
-    None))))))))))
-
--- the words of operators
-abbrev pub operator_word : Bytes → Option Keyword
-operator_word s =
-    (means s (codes "join") (keyword.Word Join)
-    (means s (codes "not") (keyword.Word Not)
-    (means s (codes "project") (keyword.Word Project)
-    (means s (codes "select") (keyword.Word Select)
-    (means s (codes "exists") (keyword.Word Exists)
-    (means s (codes "all") (keyword.Word All)
-    (means s (codes "update") (keyword.Word Update)
-    (means s (codes "extend") (keyword.Word Extend)
-    (means s (codes "rename") (keyword.Word Rename)
-    None)))))))))
-
--- the words of domains, connectives and truth values
-abbrev pub value_word : Bytes → Option Keyword
-value_word s =
-    (means s (codes "integer") (keyword.Domain Integer)
-    (means s (codes "string") (keyword.Domain String)
-    (means s (codes "boolean") (keyword.Domain Boolean)
-    (means s (codes "and") (keyword.Logic And)
-    (means s (codes "or") (keyword.Logic Or)
-    (means s (codes "true") (keyword.Truth true)
-    (means s (codes "false") (keyword.Truth false)
-    None)))))))
-
-abbrev pub or_else : Option Keyword → Option Keyword → Option Keyword
-or_else (Some k) other = Some k
-or_else None other = other
+-- the first of these words that is spelt so
+abbrev pub spelt_among : List (Bytes × Keyword) → Bytes → Option Keyword
+spelt_among [] s = None
+spelt_among (w ∷ ws) s = cond (bytes_eq s w.0) (Some w.1) (spelt_among ws s)
 
 -- the word that is spelt so, if it is one of the 26
 unfoldable pub keyword_of : Bytes → Option Keyword
-keyword_of s = or_else (statement_word s) (or_else (operator_word s) (value_word s))
+keyword_of s = spelt_among spellings s
 
 -- two bytes that are one sign: == != >= <=
 abbrev pub pair_of : ℕ → ℕ → Option Symbol

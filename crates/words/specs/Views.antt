@@ -52,6 +52,11 @@ abbrev pub Onward : Spot → Result Found Fault → Type 0
 Onward s (Ok f) = length f.after.rest.now + weight (spoken f.token) ≤ length s.rest
 Onward s (Err f) = Unit {0}
 
+-- reading one token at a cursor answers what the scan of its spot does, and a token takes its bytes
+pub record Scans (scan : Spot → Scan) (from : Cursor) (reply : Result Found Fault) : Type 0 where
+  pub value : found_at (spot_of from) reply ≡ scan (spot_of from)
+  pub onward : Onward (spot_of from) reply
+
 -- what a scanner answers, by where it stands then
 abbrev pub answer : Spot → Result Lexeme Fault → Scan
 answer s (Ok l) = heard (spoken l.token) l.place s

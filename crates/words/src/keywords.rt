@@ -1,8 +1,7 @@
-// The 26 words that are no names. specs/Spelling.antt has them as a table; here each is compared with the bytes.
-ghost use Rattle.std.specs.Prelude.{◌≡◌, Some};
-ghost use Rattle.std.specs.Str.{bytes_eq};
+// The 26 words that are no names, as specs/Spelling.antt has them.
+ghost use Rattle.std.specs.Prelude.{◌≡◌, map, Some};
 ghost use Rattle.words.specs.Lexing.{keyword_terminal};
-ghost use Rattle.words.specs.Spelling.{statement_word, operator_word, value_word, keyword_of};
+ghost use Rattle.words.specs.Spelling.{spelt_among, keyword_of};
 ghost use Rattle.words.specs.Views.{spoken};
 
 use crate::tokens::{Logic, Token, Word};
@@ -29,108 +28,44 @@ impl<'a> From<Keyword> for Token<'a> {
     }
 }
 
-// A whole word at a time: a `match` on the spellings compares byte by byte, and its proof has a case for each byte of each word.
-fn same(bytes: &[u8], spelling: &[u8]) -> bool
-    ensures { result ≡ bytes_eq bytes.now spelling.now }
-{
-    bytes == spelling
-}
+// Each word with its spelling. A `match` on the spellings would compare byte by byte, and its proof have a case for each byte of each word.
+const SPELLINGS: [(&[u8], Keyword); 26] = [
+    (b"program", Keyword::Word(Word::Program)),
+    (b"end", Keyword::Word(Word::End)),
+    (b"table", Keyword::Word(Word::Table)),
+    (b"if", Keyword::Word(Word::If)),
+    (b"then", Keyword::Word(Word::Then)),
+    (b"else", Keyword::Word(Word::Else)),
+    (b"while", Keyword::Word(Word::While)),
+    (b"do", Keyword::Word(Word::Do)),
+    (b"read", Keyword::Word(Word::Read)),
+    (b"write", Keyword::Word(Word::Write)),
+    (b"join", Keyword::Word(Word::Join)),
+    (b"not", Keyword::Word(Word::Not)),
+    (b"project", Keyword::Word(Word::Project)),
+    (b"select", Keyword::Word(Word::Select)),
+    (b"exists", Keyword::Word(Word::Exists)),
+    (b"all", Keyword::Word(Word::All)),
+    (b"update", Keyword::Word(Word::Update)),
+    (b"extend", Keyword::Word(Word::Extend)),
+    (b"rename", Keyword::Word(Word::Rename)),
+    (b"integer", Keyword::Domain(Domain::Integer)),
+    (b"string", Keyword::Domain(Domain::String)),
+    (b"boolean", Keyword::Domain(Domain::Boolean)),
+    (b"and", Keyword::Logic(Logic::And)),
+    (b"or", Keyword::Logic(Logic::Or)),
+    (b"true", Keyword::Truth(true)),
+    (b"false", Keyword::Truth(false)),
+];
 
-// The words of programs and statements.
-fn statement_word(bytes: &[u8]) -> Option<Keyword>
-    ensures { result ≡ statement_word bytes.now }
+// The first of these words that is spelt so.
+fn spelt_among(words: &[(&[u8], Keyword)], bytes: &[u8]) -> Option<Keyword>
+    ensures { result ≡ spelt_among (map (λ w. (w.0.now, w.1)) words.now) bytes.now }
 {
-    if same(bytes, b"program") {
-        return Some(Keyword::Word(Word::Program));
-    }
-    if same(bytes, b"end") {
-        return Some(Keyword::Word(Word::End));
-    }
-    if same(bytes, b"table") {
-        return Some(Keyword::Word(Word::Table));
-    }
-    if same(bytes, b"if") {
-        return Some(Keyword::Word(Word::If));
-    }
-    if same(bytes, b"then") {
-        return Some(Keyword::Word(Word::Then));
-    }
-    if same(bytes, b"else") {
-        return Some(Keyword::Word(Word::Else));
-    }
-    if same(bytes, b"while") {
-        return Some(Keyword::Word(Word::While));
-    }
-    if same(bytes, b"do") {
-        return Some(Keyword::Word(Word::Do));
-    }
-    if same(bytes, b"read") {
-        return Some(Keyword::Word(Word::Read));
-    }
-    if same(bytes, b"write") {
-        return Some(Keyword::Word(Word::Write));
-    }
-    None
-}
-
-// The words of operators.
-fn operator_word(bytes: &[u8]) -> Option<Keyword>
-    ensures { result ≡ operator_word bytes.now }
-{
-    if same(bytes, b"join") {
-        return Some(Keyword::Word(Word::Join));
-    }
-    if same(bytes, b"not") {
-        return Some(Keyword::Word(Word::Not));
-    }
-    if same(bytes, b"project") {
-        return Some(Keyword::Word(Word::Project));
-    }
-    if same(bytes, b"select") {
-        return Some(Keyword::Word(Word::Select));
-    }
-    if same(bytes, b"exists") {
-        return Some(Keyword::Word(Word::Exists));
-    }
-    if same(bytes, b"all") {
-        return Some(Keyword::Word(Word::All));
-    }
-    if same(bytes, b"update") {
-        return Some(Keyword::Word(Word::Update));
-    }
-    if same(bytes, b"extend") {
-        return Some(Keyword::Word(Word::Extend));
-    }
-    if same(bytes, b"rename") {
-        return Some(Keyword::Word(Word::Rename));
-    }
-    None
-}
-
-// The words of domains, connectives and truth values.
-fn value_word(bytes: &[u8]) -> Option<Keyword>
-    ensures { result ≡ value_word bytes.now }
-{
-    if same(bytes, b"integer") {
-        return Some(Keyword::Domain(Domain::Integer));
-    }
-    if same(bytes, b"string") {
-        return Some(Keyword::Domain(Domain::String));
-    }
-    if same(bytes, b"boolean") {
-        return Some(Keyword::Domain(Domain::Boolean));
-    }
-    if same(bytes, b"and") {
-        return Some(Keyword::Logic(Logic::And));
-    }
-    if same(bytes, b"or") {
-        return Some(Keyword::Logic(Logic::Or));
-    }
-    if same(bytes, b"true") {
-        return Some(Keyword::Truth(true));
-    }
-    if same(bytes, b"false") {
-        return Some(Keyword::Truth(false));
+    for (spelling, keyword) in words {
+        if bytes == *spelling {
+            return Some(*keyword);
+        }
     }
     None
 }
@@ -139,7 +74,5 @@ fn value_word(bytes: &[u8]) -> Option<Keyword>
 pub fn keyword_of(bytes: &[u8]) -> Option<Keyword>
     ensures { result ≡ keyword_of bytes.now }
 {
-    statement_word(bytes)
-        .or_else(|| operator_word(bytes))
-        .or_else(|| value_word(bytes))
+    spelt_among(&SPELLINGS, bytes)
 }

@@ -4,6 +4,7 @@ ghost use Rattle.words.specs.Letters.{letter, digit, name_byte, run};
 ghost use Rattle.words.specs.Letters.{belongs as in_class};
 
 // What a run of bytes is made of: the bytes of names, of integers, of strings.
+// A value and no closure, since definitions name the classes: with a closure each caller would have to say its class again.
 #[derive(Clone, Copy)]
 pub enum Class {
     Naming,

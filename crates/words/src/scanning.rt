@@ -4,7 +4,7 @@ ghost use Rattle.words.specs.Letters.{run, name_byte, digit, feed, blank};
 ghost use Rattle.words.specs.Lexing.{start, further, skipped, word_or_name, name_at, integer_at, string_at, sign_at, token_at, next as next_token};
 ghost use Rattle.words.specs.Sizes.{text_bytes};
 ghost use Rattle.words.specs.Spelling.{keyword_of};
-ghost use Rattle.words.specs.Views.{spot_of, standing, spoken, found_at, Onward, answer, Moved};
+ghost use Rattle.words.specs.Views.{spot_of, standing, spoken, Scans, answer, Moved};
 
 use crate::cursors::{Cursor, Found};
 use crate::keywords::keyword_of;
@@ -68,8 +68,8 @@ impl<'a> Cursor<'a> {
         Cursor {
             rest: &self.rest[n..],
             place: Place {
-                line: self.place.line,
                 byte: self.place.byte + n as u32,
+                ..self.place
             },
         }
     }
@@ -77,8 +77,7 @@ impl<'a> Cursor<'a> {
     // A word or a name, as far as name bytes go.
     fn name(self) -> Result<Found<'a>, Fault>
         requires first { 0 < run name_byte self.rest.now }
-        ensures onward { Onward (spot_of self.entry) result }
-        ensures value { found_at (spot_of self.entry) result ≡ name_at (spot_of self.entry) }
+        ensures { Scans name_at self.entry result }
     {
         let length = run_length(Class::Naming, self.rest);
         if length > NAME_BYTES {
@@ -93,8 +92,7 @@ impl<'a> Cursor<'a> {
     // An integer of any number of digits whose value is at most the limit.
     fn integer(self, limit: u64) -> Result<Found<'a>, Fault>
         requires first { 0 < run digit self.rest.now }
-        ensures onward { Onward (spot_of self.entry) result }
-        ensures value { found_at (spot_of self.entry) result ≡ integer_at limit (spot_of self.entry) }
+        ensures { Scans (integer_at limit) self.entry result }
     {
         let length = run_length(Class::Counting, self.rest);
         let digits = &self.rest[..length];
@@ -111,8 +109,7 @@ impl<'a> Cursor<'a> {
     fn string(self, inside: &'a [u8]) -> Result<Found<'a>, Fault>
         requires quote { 0 < length self.rest.now }
         requires inner { inside.now ≡ drop 1 self.rest.now }
-        ensures onward { Onward (spot_of self.entry) result }
-        ensures value { found_at (spot_of self.entry) result ≡ string_at (spot_of self.entry) }
+        ensures { Scans string_at self.entry result }
     {
         let length = run_length(Class::Quoted, inside);
         if length >= inside.len() || inside[length] != b'"' {
@@ -129,8 +126,7 @@ impl<'a> Cursor<'a> {
 
     // A sign, or nothing that a token begins with.
     fn sign(self) -> Result<Found<'a>, Fault>
-        ensures onward { Onward (spot_of self.entry) result }
-        ensures value { found_at (spot_of self.entry) result ≡ sign_at (spot_of self.entry) }
+        ensures { Scans sign_at self.entry result }
     {
         match take_symbol(self.rest) {
             Some(signed) => {
@@ -146,8 +142,7 @@ impl<'a> Cursor<'a> {
 
     // The token at the cursor, by its first byte.
     fn token(self) -> Result<Found<'a>, Fault>
-        ensures onward { Onward (spot_of self.entry) result }
-        ensures value { found_at (spot_of self.entry) result ≡ token_at (spot_of self.entry) }
+        ensures { Scans token_at self.entry result }
     {
         match self.rest {
             [] => Ok(Found {

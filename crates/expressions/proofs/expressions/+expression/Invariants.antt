@@ -41,11 +41,8 @@ decreases-inside l = 32 * worth l.parser.now + 30
 abbrev pub decreases-low_term : goal.decreases-low_term
 decreases-low_term l = 32 * worth l.parser.now + 19
 
-abbrev pub decreases-minus : goal.decreases-minus
-decreases-minus l = 32 * worth l.parser.now + 2
-
-abbrev pub decreases-not : goal.decreases-not
-decreases-not l = 32 * worth l.parser.now + 2
+abbrev pub decreases-negation : goal.decreases-negation
+decreases-negation l = 32 * worth l.parser.now + 2
 
 abbrev pub decreases-unary : goal.decreases-unary
 decreases-unary l = 32 * worth l.parser.now + 2

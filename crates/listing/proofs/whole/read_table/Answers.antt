@@ -12,6 +12,6 @@ returns-then-text-gt-TEXT_BYTES c = record {
 pub returns : goal.returns
 returns c =
     let cs = schema_of c.args.script.now c.args.schema.now in
-    let reply = reply_is cs c.args.text.now c.new-reader.result c.pass_table.new.self c.pass_table.result c.if-text-gt-TEXT_BYTES.false c.new-reader.ensures.text c.new-reader.ensures.start
+    let reply = reply_is cs c.args.text.now c.new.result c.pass_table.new.self c.pass_table.result c.if-text-gt-TEXT_BYTES.false c.new.ensures.text c.new.ensures.start
     c.pass_table.ensures.same c.pass_table.ensures.value c.pass_table.ensures.place in
     record { reply = reply; right = λ short. tells_table cs c.args.text.now c.pass_table.result short reply }

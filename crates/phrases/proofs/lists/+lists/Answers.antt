@@ -9,7 +9,7 @@ use Rattle.phrases.specs.Held.{Held}
 use Rattle.phrases.specs.Sorts.{item_reader, level_of}
 use Rattle.phrases.specs.States.{ahead_at, behind, tokens_ahead}
 use Rattle.phrases.proofs.ListSteps.{tuple_first, tuple_second, tuple_third, tuple_found, tuple_held, list_first, list_found, list_stops, more_halts, more_first, more_found, held_link, held_some, link_below, link_beyond}
-use Rattle.phrases.proofs.Puts.{done_put, numbers_put, answered, answer, refusal, answers_later, numbers_later, numbers_on_later}
+use Rattle.phrases.proofs.Puts.{done_put, numbers_put, answered, answer, answers_here, refusal, answers_later, numbers_later, numbers_on_later, numbers_on_linked}
 use Rattle.phrases.proofs.Steps.{refused_at_lem, read_at, cases_err, answers_err, expected_ok, expected_broken, stepped_ok, stepped_broken, code_pays}
 use Rattle.tree.proofs.Grown.{below_then, beyond_then}
 use Rattle.phrases.proofs.lists.+lists.Goals as goal
@@ -18,8 +18,9 @@ pub list-returns-in_err-first : goal.list-returns-in_err-first
 list-returns-in_err-first t c =
     let y = err_from_is_err_and c.from_residual.result c.from_residual.ensures.1 in
     record {
+      lent = c.item.ensures.lent;
       numbers = cases_err _ _ _ y.1;
-      answer = λ n text g. answers_err _ _ _ _ _ _ _ _ _ _ _ y.1 y.2 (list_first _ n _ _ _ (refusal _ _ _ _ _ _ _ _ _ (c.in_err-first.ensures.answer n text g)));
+      answer = λ n text xs g. answers_err _ _ _ _ _ _ _ _ _ _ _ y.1 y.2 (list_first _ n _ _ _ (refusal _ _ _ _ _ _ _ _ _ (c.in_err-first.ensures.answer n text _ g)));
     }
 
 pub list-returns : goal.list-returns
@@ -30,26 +31,28 @@ list-returns t c =
     let b = c.item.new.parser in
     let e = c.more_items.new.parser in
     record {
+      lent = c.more_items.ensures.lent ∙ c.item.ensures.lent;
       numbers = numbers_later a b e c.more_items.result i.numbers.thrifty i.numbers.onward i.numbers.grown m.numbers;
-      answer = λ n text g.
-          let d = answered _ text _ _ a b c.args.nodes.now c.item.new.nodes _ (i.answer n text g) in
-          answers_later _ text _ _ _ a b e c.args.nodes.now c.item.new.nodes c.more_items.new.nodes c.more_items.result
-          (list_found n c.args.listed (tokens_ahead a) _ _ d.value) d.below d.beyond m.numbers (m.answer n text d.grounded _ _ d.holds);
+      answer = λ n text xs g.
+          let d = answered _ text _ _ a b xs c.item.new.parser.nodes.now _ (i.answer n text _ g) in
+          answers_later _ text _ _ _ a b e xs c.item.new.parser.nodes.now c.more_items.new.parser.nodes.now c.more_items.result
+          (list_found n c.args.listed (tokens_ahead a) _ _ d.value) d.below d.beyond m.numbers (m.answer n text _ d.grounded _ _ d.holds);
     }
 
 pub more_items-returns-then-not-sees : goal.more_items-returns-then-not-sees
 more_items-returns-then-not-sees t c =
     let a = c.args.parser.now in
     record {
+      lent = refl;
       numbers = record { thrifty = omega arith; onward = omega arith; grown = omega arith };
-      answer = λ n text g from u h. answer _ text _ _ a a c.args.nodes.now c.args.nodes.now _ (record {
+      answer = λ n text xs g from u h. answers_here _ text _ from a xs _ g (answer _ text _ _ a a xs xs _ (record {
         part = u;
         value = list_stops n c.args.listed u (spoken a.ahead.token) (ahead_at a) (behind a) (sym c.sees.ensures ∙ c.if-not-sees.true);
         grounded = g;
         below = λ i l. refl;
         beyond = λ i l. refl;
         holds = h;
-      });
+      }));
     }
 
 pub more_items-returns-in_err-advance : goal.more_items-returns-in_err-advance
@@ -57,9 +60,10 @@ more_items-returns-in_err-advance t c =
     let y = err_from_is_err_and c.from_residual.result c.from_residual.ensures.1 in
     let a = c.args.parser.now in
     record {
+      lent = c.advance.ensures.lent;
       numbers = cases_err _ _ _ y.1;
-      answer = λ n text g from u h. answers_err _ text _ _ _ _ _ _ _ _ _ y.1 y.2
-          (more_halts (end_of text) n c.args.listed u (spoken a.ahead.token) (ahead_at a) (behind a) _ (sym c.sees.ensures ∙ c.if-not-sees.false) (stepped_broken text a c.advance.new.self _ (c.in_err-advance.ensures.step text g)));
+      answer = λ n text xs g from u h. answers_err _ text _ _ _ _ _ _ _ _ _ y.1 y.2
+          (more_halts (end_of text) n c.args.listed u (spoken a.ahead.token) (ahead_at a) (behind a) _ (sym c.sees.ensures ∙ c.if-not-sees.false) (stepped_broken text _ a c.advance.new.self _ (c.in_err-advance.ensures.step text xs g)));
     }
 
 pub more_items-returns-in_err-next : goal.more_items-returns-in_err-next
@@ -68,12 +72,13 @@ more_items-returns-in_err-next t c =
     let a = c.args.parser.now in
     let b = c.advance.new.self in
     record {
+      lent = c.item.ensures.lent ∙ c.advance.ensures.lent;
       numbers = cases_err _ _ _ y.1;
-      answer = λ n text g from u h.
-          let k = stepped_ok text a b _ (c.in_ok-advance.ensures.step text g) in
+      answer = λ n text xs g from u h.
+          let k = stepped_ok text _ a b _ (c.in_ok-advance.ensures.step text xs g) in
           answers_err _ text _ _ _ _ _ _ _ _ _ y.1 y.2
           (more_first (end_of text) n c.args.listed u (spoken a.ahead.token) (ahead_at a) (behind a) _ (sym c.sees.ensures ∙ c.if-not-sees.false)
-          (refused_at_lem (end_of text) (item_reader n c.args.listed) _ _ _ k.1 (refusal _ text _ _ b c.item.new.parser c.args.nodes.now c.item.new.nodes _ (c.in_err-next.ensures.answer n text k.0))));
+          (refused_at_lem (end_of text) (item_reader n c.args.listed) _ _ _ k.1 (refusal _ text _ _ b c.item.new.parser xs c.item.new.parser.nodes.now _ (c.in_err-next.ensures.answer n text _ k.0))));
     }
 
 pub more_items-returns : goal.more_items-returns
@@ -87,28 +92,30 @@ more_items-returns t c =
     let m = c.more_items.ensures in
     let pays = code_pays (sign Comma) (spoken a.ahead.token) (sym c.sees.ensures ∙ c.if-not-sees.false) in
     record {
-      numbers = numbers_on_later a d z c.more_items.result (omega (arith, s.count, s.paid, i.numbers.thrifty)) (omega (arith, s.paid, i.numbers.onward)) (omega (arith, s.count, i.numbers.grown)) m.numbers;
-      answer = λ n text g from u h.
-          let k = stepped_ok text a b _ (s.step text g) in
-          let v = answered _ text _ _ b d c.args.nodes.now c.item.new.nodes _ (i.answer n text k.0) in
-          let low = held_some c.args.listed text c.args.nodes.now from a.count c.args.first u h in
-          answers_later _ text _ _ from a d z c.args.nodes.now c.link.new.nodes c.more_items.new.nodes c.more_items.result
+      lent = c.more_items.ensures.lent ∙ c.item.ensures.lent ∙ c.advance.ensures.lent;
+      numbers = numbers_on_later a d z c.more_items.result (omega (arith, s.count, s.paid, i.numbers.thrifty)) (omega (arith, s.paid, i.numbers.onward)) (omega (arith, s.count, i.numbers.grown)) (numbers_on_linked d _ z c.more_items.result refl refl m.numbers);
+      answer = λ n text xs g from u h.
+          let k = stepped_ok text _ a b _ (s.step text xs g) in
+          let v = answered _ text _ _ b d xs c.item.new.parser.nodes.now _ (i.answer n text _ k.0) in
+          let low = held_some c.args.listed text xs from a.count c.args.first u h in
+          answers_later _ text _ _ from a _ z xs c.link.new.nodes c.more_items.new.parser.nodes.now c.more_items.result
           (more_found n c.args.listed u (spoken a.ahead.token) (ahead_at a) (behind a) v.part _ (sym c.sees.ensures ∙ c.if-not-sees.false) (read_at (item_reader n c.args.listed) _ _ _ _ k.1 v.value))
-          (below_then from from c.args.nodes.now c.item.new.nodes c.link.new.nodes (omega arith) (λ j l. v.below j (omega (arith, l, low, s.count)))
-          (link_below from (a.count - 1) c.in_ok-next.next c.item.new.nodes c.link.new.nodes (omega (arith, low)) c.link.ensures)) (beyond_then d.count d.count c.args.nodes.now c.item.new.nodes c.link.new.nodes (omega arith) v.beyond
-          (link_beyond d.count (a.count - 1) c.in_ok-next.next c.item.new.nodes c.link.new.nodes (omega (arith, low, s.count, i.numbers.grown)) c.link.ensures)) m.numbers
-          (m.answer n text v.grounded from (combine commas (ahead_at a) u v.part)
-          (held_link c.args.listed text c.args.nodes.now c.item.new.nodes c.link.new.nodes from a.count d.count c.args.first c.in_ok-next.next (ahead_at a) u v.part h
-          (subst (λ m. Held (level_of c.args.listed) text c.item.new.nodes m d.count c.in_ok-next.next v.part) s.count v.holds)
-          (λ j l. v.below j (omega (arith, l, s.count))) (omega (arith, c.requires.begun, c.requires.room, c.requires.fits, c.item.auto.nodes)) c.link.ensures));
+          (below_then from from xs c.item.new.parser.nodes.now c.link.new.nodes (omega arith) (λ j l. v.below j (omega (arith, l, low, s.count)))
+          (link_below from (a.count - 1) c.in_ok-next.next c.item.new.parser.nodes.now c.link.new.nodes (omega (arith, low)) c.link.ensures)) (beyond_then d.count d.count xs c.item.new.parser.nodes.now c.link.new.nodes (omega arith) v.beyond
+          (link_beyond d.count (a.count - 1) c.in_ok-next.next c.item.new.parser.nodes.now c.link.new.nodes (omega (arith, low, s.count, i.numbers.grown)) c.link.ensures)) m.numbers
+          (m.answer n text c.link.new.nodes (record { lies = v.grounded.lies; tells = v.grounded.tells; entries = refl }) from (combine commas (ahead_at a) u v.part)
+          (held_link c.args.listed text xs c.item.new.parser.nodes.now c.link.new.nodes from a.count d.count c.args.first c.in_ok-next.next (ahead_at a) u v.part h
+          (subst (λ m. Held (level_of c.args.listed) text c.item.new.parser.nodes.now m d.count c.in_ok-next.next v.part) s.count v.holds)
+          (λ j l. v.below j (omega (arith, l, s.count))) (let f = d.fits in let r = a.room in omega (arith, c.requires.begun, r, f)) c.link.ensures));
     }
 
 pub tuple_const-returns-in_err-expect : goal.tuple_const-returns-in_err-expect
 tuple_const-returns-in_err-expect t c =
     let y = err_from_is_err_and c.from_residual.result c.from_residual.ensures.1 in
     record {
+      lent = c.expect.ensures.lent;
       numbers = cases_err _ _ _ y.1;
-      answer = λ n text g. answers_err _ text _ _ _ _ _ _ _ _ _ y.1 y.2 (tuple_first (end_of text) n _ _ (expected_broken text _ c.args.parser.now c.expect.new.self _ (c.in_err-expect.ensures.step text g)));
+      answer = λ n text xs g. answers_err _ text _ _ _ _ _ _ _ _ _ y.1 y.2 (tuple_first (end_of text) n _ _ (expected_broken text _ _ c.args.parser.now c.expect.new.self _ (c.in_err-expect.ensures.step text xs g)));
     }
 
 pub tuple_const-returns-in_err-first : goal.tuple_const-returns-in_err-first
@@ -117,11 +124,12 @@ tuple_const-returns-in_err-first t c =
     let a = c.args.parser.now in
     let b = c.expect.new.self in
     record {
+      lent = c.list.ensures.lent ∙ c.expect.ensures.lent;
       numbers = cases_err _ _ _ y.1;
-      answer = λ n text g.
-          let k = expected_ok text _ a b _ (c.in_ok-expect.ensures.step text g) in
+      answer = λ n text xs g.
+          let k = expected_ok text _ _ a b _ (c.in_ok-expect.ensures.step text xs g) in
           answers_err _ text _ _ _ _ _ _ _ _ _ y.1 y.2
-          (tuple_second (end_of text) n _ _ _ _ k.1 (refusal _ text _ _ b c.list.new.parser c.args.nodes.now c.list.new.nodes _ (c.in_err-first.ensures.answer n text k.0)));
+          (tuple_second (end_of text) n _ _ _ _ k.1 (refusal _ text _ _ b c.list.new.parser xs c.list.new.parser.nodes.now _ (c.in_err-first.ensures.answer n text _ k.0)));
     }
 
 pub tuple_const-returns-in_err-expect-2 : goal.tuple_const-returns-in_err-expect-2
@@ -131,12 +139,13 @@ tuple_const-returns-in_err-expect-2 t c =
     let b = c.expect.new.self in
     let d = c.list.new.parser in
     record {
+      lent = c.expect-2.ensures.lent ∙ c.list.ensures.lent ∙ c.expect.ensures.lent;
       numbers = cases_err _ _ _ y.1;
-      answer = λ n text g.
-          let k = expected_ok text _ a b _ (c.in_ok-expect.ensures.step text g) in
-          let v = answered _ text _ _ b d c.args.nodes.now c.list.new.nodes _ (c.in_ok-first.ensures.answer n text k.0) in
+      answer = λ n text xs g.
+          let k = expected_ok text _ _ a b _ (c.in_ok-expect.ensures.step text xs g) in
+          let v = answered _ text _ _ b d xs c.list.new.parser.nodes.now _ (c.in_ok-first.ensures.answer n text _ k.0) in
           answers_err _ text _ _ _ _ _ _ _ _ _ y.1 y.2
-          (tuple_third (end_of text) n _ _ _ _ _ _ k.1 v.value (expected_broken text _ d c.expect-2.new.self _ (c.in_err-expect-2.ensures.step text v.grounded)));
+          (tuple_third (end_of text) n _ _ _ _ _ _ k.1 v.value (expected_broken text _ _ d c.expect-2.new.self _ (c.in_err-expect-2.ensures.step text _ v.grounded)));
     }
 
 pub tuple_const-returns : goal.tuple_const-returns
@@ -149,16 +158,17 @@ tuple_const-returns t c =
     let i = c.in_ok-first.ensures in
     let z = c.in_ok-expect-2.ensures in
     record {
+      lent = c.put.ensures.lent ∙ c.expect-2.ensures.lent ∙ c.list.ensures.lent ∙ c.expect.ensures.lent;
       numbers = numbers_put a e c.put.new.self c.put.ensures.state (omega (arith, s.count, s.paid, i.numbers.thrifty, z.count, z.paid)) (omega (arith, s.paid, i.numbers.onward, z.paid)) (omega (arith, s.count, i.numbers.grown, z.count));
-      answer = λ n text g.
-          let k = expected_ok text _ a b _ (s.step text g) in
-          let v = answered _ text _ _ b d c.args.nodes.now c.list.new.nodes _ (i.answer n text k.0) in
-          let w = expected_ok text _ d e _ (z.step text v.grounded) in
-          done_put _ text _ _ a e c.put.new.self c.args.nodes.now c.list.new.nodes c.put.new.nodes _ (ahead_at a) (tuple_constant (place_part (ahead_at a)) v.part) _
+      answer = λ n text xs g.
+          let k = expected_ok text _ _ a b _ (s.step text xs g) in
+          let v = answered _ text _ _ b d xs c.list.new.parser.nodes.now _ (i.answer n text _ k.0) in
+          let w = expected_ok text _ _ d e _ (z.step text _ v.grounded) in
+          done_put _ text _ _ a e c.put.new.self xs c.list.new.parser.nodes.now _ (ahead_at a) (tuple_constant (place_part (ahead_at a)) v.part) _
           c.put.ensures.state c.put.ensures.nodes c.put.ensures.root (tuple_found n _ _ _ _ _ _ _ k.1 v.value w.1) w.0
           (λ j l. v.below j (omega (arith, l, s.count))) (λ j l. v.beyond j (omega (arith, l, z.count)))
-          (omega (arith, s.count, i.numbers.grown, z.count)) (omega (arith, c.requires.room, c.requires.fits, s.count, s.paid, i.numbers.thrifty, z.count, z.paid, c.list.auto.nodes))
-          (λ below says next. tuple_held text c.list.new.nodes c.put.new.nodes a.count e.count _ v.part (ahead_at a)
-          (subst (λ m. Held constant_level text c.list.new.nodes m e.count c.in_ok-first.first v.part) s.count
-          (subst (λ m. Held constant_level text c.list.new.nodes b.count m c.in_ok-first.first v.part) (sym z.count) v.holds)) below says next);
+          (omega (arith, s.count, i.numbers.grown, z.count)) (omega (arith, a.room, s.count, s.paid, i.numbers.thrifty, z.count, z.paid))
+          (λ below says next. tuple_held text c.list.new.parser.nodes.now c.put.new.self.nodes.now a.count e.count _ v.part (ahead_at a)
+          (subst (λ m. Held constant_level text c.list.new.parser.nodes.now m e.count c.in_ok-first.first v.part) s.count
+          (subst (λ m. Held constant_level text c.list.new.parser.nodes.now b.count m c.in_ok-first.first v.part) (sym z.count) v.holds)) below says next);
     }

@@ -1,7 +1,7 @@
 use Rattle.std.proofs.Common.{◌∙◌}
 use Rattle.std.proofs.lemmas.Result.{err_from_is_err_and}
 use Rattle.listing.specs.Seen.{rest}
-use Rattle.listing.proofs.Exits.{seen_err, at_err}
+use Rattle.listing.proofs.Exits.{reads_err}
 use Rattle.listing.proofs.Entries.{columns_on, columns_off, columns_end}
 use Rattle.listing.proofs.reader.Reader.columns.Goals as goal
 
@@ -20,9 +20,6 @@ returns c = record {
 
 pub returns-in_err-further_column : goal.returns-in_err-further_column
 returns-in_err-further_column c =
-    let p = err_from_is_err_and c.from_residual.result c.from_residual.ensures.1 in
-    record {
-      value = seen_err c.further_column.new.self _ _ _ p (columns_off c.args.script.now c.args.attributes.now c.loop-attribute.attribute-index _ c.loop-attribute.separator.now (rest c.loop-attribute.self) _ c.loop-attribute-test.true c.loop-attribute.invariant.1 _ _ c.in_err-further_column.ensures.value);
-      place = at_err c.further_column.new.self _ _ p c.in_err-further_column.ensures.place;
-      same = c.in_err-further_column.ensures.same ∙ c.loop-attribute.invariant.0;
-    }
+    reads_err (err_from_is_err_and _ c.from_residual.ensures.1) c.in_err-further_column.ensures.place
+    (columns_off c.args.script.now c.args.attributes.now c.loop-attribute.attribute-index _ c.loop-attribute.separator.now (rest c.loop-attribute.self) _ c.loop-attribute-test.true c.loop-attribute.invariant.1 _ _ c.in_err-further_column.ensures.value)
+    (c.in_err-further_column.ensures.same ∙ c.loop-attribute.invariant.0)

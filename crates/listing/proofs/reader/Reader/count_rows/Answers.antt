@@ -2,7 +2,7 @@ use Rattle.std.proofs.Common.{length, sym, refl, ap, ◌∙◌, arith}
 use Rattle.std.proofs.lemmas.Result.{err_from_is_err_and}
 use Rattle.schema.specs.Columns.{held}
 use Rattle.listing.specs.Seen.{rest, domains_of}
-use Rattle.listing.proofs.Exits.{seen_err, at_err}
+use Rattle.listing.proofs.Exits.{reads_err}
 use Rattle.listing.proofs.Tables.{none_before, another_row, wrong_row, right_end, wrong_end, moved}
 use Rattle.listing.proofs.reader.Reader.count_rows.Goals as goal
 
@@ -29,21 +29,15 @@ loop-self-preserved c =
 
 pub returns-in_err-row : goal.returns-in_err-row
 returns-in_err-row c =
-    let p = err_from_is_err_and c.from_residual.result c.from_residual.ensures.1 in
-    record {
-      value = seen_err c.row.new.self _ _ _ p (wrong_row (domains_of (held c.args.schema.now)) c.loop-self.count (rest c.loop-self.self) _ c.loop-self.invariant.2 _ _ (sym c.at_row.ensures ∙ c.loop-self-test.true) c.in_err-row.ensures.value);
-      place = at_err c.row.new.self _ _ p c.in_err-row.ensures.place;
-      same = c.in_err-row.ensures.same ∙ c.loop-self.invariant.0;
-    }
+    reads_err (err_from_is_err_and _ c.from_residual.ensures.1) c.in_err-row.ensures.place
+    (wrong_row (domains_of (held c.args.schema.now)) c.loop-self.count (rest c.loop-self.self) _ c.loop-self.invariant.2 _ _ (sym c.at_row.ensures ∙ c.loop-self-test.true) c.in_err-row.ensures.value)
+    (c.in_err-row.ensures.same ∙ c.loop-self.invariant.0)
 
 pub returns-in_err-end : goal.returns-in_err-end
 returns-in_err-end c =
-    let p = err_from_is_err_and c.from_residual-in_err-end.result c.from_residual-in_err-end.ensures.1 in
-    record {
-      value = seen_err c.end.new.self _ _ _ p (wrong_end (domains_of (held c.args.schema.now)) c.loop-self.count (rest c.loop-self.self) _ c.loop-self.invariant.2 _ _ (sym c.at_row.ensures ∙ c.loop-self-test.false) c.in_err-end.ensures.value);
-      place = at_err c.end.new.self _ _ p c.in_err-end.ensures.place;
-      same = c.in_err-end.ensures.same ∙ c.loop-self.invariant.0;
-    }
+    reads_err (err_from_is_err_and _ c.from_residual-in_err-end.ensures.1) c.in_err-end.ensures.place
+    (wrong_end (domains_of (held c.args.schema.now)) c.loop-self.count (rest c.loop-self.self) _ c.loop-self.invariant.2 _ _ (sym c.at_row.ensures ∙ c.loop-self-test.false) c.in_err-end.ensures.value)
+    (c.in_err-end.ensures.same ∙ c.loop-self.invariant.0)
 
 pub returns : goal.returns
 returns c = record {

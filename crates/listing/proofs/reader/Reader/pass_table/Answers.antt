@@ -2,7 +2,7 @@ use Rattle.std.proofs.Common.{◌∙◌}
 use Rattle.std.proofs.lemmas.Result.{err_from_is_err_and}
 use Rattle.schema.specs.Columns.{held}
 use Rattle.listing.specs.Seen.{rest}
-use Rattle.listing.proofs.Exits.{seen_err, at_err}
+use Rattle.listing.proofs.Exits.{reads_err}
 use Rattle.listing.proofs.Tables.{heading_right, heading_wrong}
 use Rattle.listing.proofs.reader.Reader.pass_table.Goals as goal
 
@@ -15,9 +15,6 @@ returns c = record {
 
 pub returns-in_err-heading : goal.returns-in_err-heading
 returns-in_err-heading c =
-    let p = err_from_is_err_and c.from_residual.result c.from_residual.ensures.1 in
-    record {
-      value = seen_err c.heading.new.self _ _ _ p (heading_wrong c.args.script.now (held c.args.schema.now) (rest c.args.self.now) _ _ c.in_err-heading.ensures.value);
-      place = at_err c.heading.new.self _ _ p c.in_err-heading.ensures.place;
-      same = c.in_err-heading.ensures.same;
-    }
+    reads_err (err_from_is_err_and _ c.from_residual.ensures.1) c.in_err-heading.ensures.place
+    (heading_wrong c.args.script.now (held c.args.schema.now) (rest c.args.self.now) _ _ c.in_err-heading.ensures.value)
+    c.in_err-heading.ensures.same

@@ -7,7 +7,7 @@ use Rattle.listing.specs.Seen.{rest, values_in, domains_of}
 use Rattle.listing.proofs.Entries.{gathered}
 use Rattle.listing.proofs.reader.Reader.values.Given as goal
 
-abbrev pub invariant-loop-attribute : goal.invariant-loop-attribute
-invariant-loop-attribute l = (l.self.text.now ≡ l.initial.self.text.now) × (l.count ≡ l.attribute-index) × (length l.cells ≡ columns) ×
-    (gathered (values_in l.attribute-index l.self.text.now l.cells) (entries WrongRow read_value l.separator (domains_of (drop l.attribute-index l.attributes)) (rest l.self))
+abbrev pub invariant-loop-i : goal.invariant-loop-i
+invariant-loop-i l = (l.self.text.now ≡ l.initial.self.text.now) × (length l.cells ≡ columns) ×
+    (gathered (values_in l.i l.self.text.now l.cells) (entries WrongRow read_value l.separator (domains_of (drop l.i l.attributes)) (rest l.self))
     ≡ entries WrongRow read_value [] (domains_of l.attributes) (rest l.initial.self))

@@ -1,8 +1,9 @@
-use Rattle.std.proofs.Common.{Err, sym, ap, ◌∙◌, subst}
+use Rattle.std.proofs.Common.{sym, ap, ◌∙◌}
 use Rattle.std.proofs.lemmas.Result.{err_from_is_err_and}
 use Rattle.std.proofs.lemmas.List.{drop_all}
 use Rattle.texts.specs.Readers.{word}
-use Rattle.listing.specs.Seen.{rest, seen, AtFault}
+use Rattle.listing.specs.Seen.{rest}
+use Rattle.listing.proofs.Exits.{reads_err}
 use Rattle.listing.proofs.Steps.{word_on_lem, word_off}
 use Rattle.listing.proofs.reader.Reader.word.Goals as goal
 
@@ -21,6 +22,6 @@ returns c = record {
 
 pub returns-in_err-byte : goal.returns-in_err-byte
 returns-in_err-byte c =
-    let p = err_from_is_err_and c.from_residual.result c.from_residual.ensures.1 in
-    let off = word_off c.args.rule c.args.wanted.now c.loop-b.b-index (rest c.loop-b.self) _ c.loop-b-test.true c.loop-b.invariant.1 _ _ c.in_err-byte.ensures.value in
-    record { value = ap (seen c.byte.new.self) (p.1 ∙ ap Err p.2) ∙ off; place = subst (AtFault c.byte.new.self) (sym (p.1 ∙ ap Err p.2)) c.in_err-byte.ensures.place; same = c.in_err-byte.ensures.same ∙ c.loop-b.invariant.0 }
+    reads_err (err_from_is_err_and _ c.from_residual.ensures.1) c.in_err-byte.ensures.place
+    (word_off c.args.rule c.args.wanted.now c.loop-b.b-index (rest c.loop-b.self) _ c.loop-b-test.true c.loop-b.invariant.1 _ _ c.in_err-byte.ensures.value)
+    (c.in_err-byte.ensures.same ∙ c.loop-b.invariant.0)

@@ -8,9 +8,10 @@ returns-in_err-self c =
     let y = err_from_is_err_and c.from_residual.result c.from_residual.ensures.1 in
     let n = c.in_err-self.ensures in
     record {
+      lent = refl;
       count = refl;
       paid = cases_err _ _ _ y.1;
-      step = λ text g. stepped_err _ _ _ _ _ _ y.1 y.2 (faulty_tokens _ _ _ n.value);
+      step = λ text xs g. stepped_err _ _ _ _ _ _ _ y.1 y.2 (faulty_tokens _ _ _ n.value);
     }
 
 pub returns : goal.returns
@@ -18,7 +19,15 @@ returns c =
     let n = c.in_ok-self.ensures in
     let pays = heard_pays _ _ _ _ n.value n.moved in
     record {
+      lent = refl;
       count = refl;
       paid = omega (arith, pays);
-      step = λ text g. let h = heard_tells text _ _ _ _ n.value g.lies in to_stepped _ _ _ _ (record { lies = h.0; tells = h.1 }) (heard_tokens _ _ _ _ n.value);
+      step = λ text xs g. let h = heard_tells text _ _ _ _ n.value g.lies in to_stepped text xs _ _ _ (record { lies = h.0; tells = h.1; entries = g.entries }) (heard_tokens _ _ _ _ n.value);
     }
+
+pub invariant_of-self-2 : goal.invariant_of-self-2
+invariant_of-self-2 c =
+    let n = c.in_ok-self.ensures in
+    let pays = heard_pays _ _ _ _ n.value n.moved in
+    let r = c.args.self.now.room in
+    record { fits = c.args.self.now.fits; room = omega (arith, pays, r) }

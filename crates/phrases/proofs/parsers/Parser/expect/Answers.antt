@@ -7,15 +7,17 @@ use Rattle.phrases.proofs.parsers.Parser.expect.Goals as goal
 pub returns-then-not-sees : goal.returns-then-not-sees
 returns-then-not-sees c =
     record {
+      lent = refl;
       count = refl;
       paid = tt;
-      step = λ text g. expected_else text _ _ _ _ g (sym c.sees.ensures ∙ c.if-not-sees.true) c.refuse.ensures;
+      step = λ text xs g. expected_else text _ _ _ _ _ g (sym c.sees.ensures ∙ c.if-not-sees.true) c.refuse.ensures;
     }
 
 pub returns : goal.returns
 returns c =
     record {
+      lent = c.advance.ensures.lent;
       count = c.advance.ensures.count;
       paid = paid_less _ _ _ _ (code_pays (wanted_of c.args.wanted) (spoken c.args.self.now.ahead.token) (sym c.sees.ensures ∙ c.if-not-sees.false)) c.advance.ensures.paid;
-      step = λ text g. expected_there text _ _ _ _ g (sym c.sees.ensures ∙ c.if-not-sees.false) (c.advance.ensures.step text g);
+      step = λ text xs g. expected_there text _ _ _ _ _ g (sym c.sees.ensures ∙ c.if-not-sees.false) (c.advance.ensures.step text xs g);
     }
