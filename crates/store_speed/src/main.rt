@@ -10,17 +10,18 @@ use std::time::Instant;
 use std::{env, io};
 use store::RowStore;
 
+// The row of one column that holds this number.
+fn row_of(number: u16) -> [i64; COLUMNS] {
+    let mut row = [0i64; COLUMNS];
+    row[0] = number as i64;
+    row
+}
+
 // Adds the rows 0, 1, 2 .. to the last table, and says how many were accepted.
-fn fill<S: RowStore>(store: &mut S, rows: u16) -> u16 {
-    let mut accepted = 0;
-    for number in 0..rows {
-        let mut row = [0i64; COLUMNS];
-        row[0] = number as i64;
-        if store.add(&row).is_ok() && accepted < rows {
-            accepted += 1;
-        }
-    }
-    accepted
+fn fill<S: RowStore>(store: &mut S, rows: u16) -> usize {
+    (0..rows)
+        .filter(|number| store.add(&row_of(*number)).is_ok())
+        .count()
 }
 
 fn measure<S: RowStore>(

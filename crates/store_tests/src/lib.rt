@@ -198,99 +198,93 @@ mod tests {
         )
     }
 
+    // The row of one column that holds this number.
+    fn row_of(number: u16) -> [i64; COLUMNS] {
+        let mut row = [0i64; COLUMNS];
+        row[0] = number as i64;
+        row
+    }
+
     // How many of the rows 0, 1, 2 .. a table of one column takes.
-    fn rows_taken<S: RowStore>(store: &mut S, rows: u16) -> u16 {
-        let mut taken = 0;
+    fn rows_taken<S: RowStore>(store: &mut S, rows: u16) -> usize {
         let _ = store.open(1);
-        for number in 0..rows {
-            let mut row = [0i64; COLUMNS];
-            row[0] = number as i64;
-            if store.add(&row).is_ok() && taken < rows {
-                taken += 1;
-            }
-        }
-        taken
+        (0..rows)
+            .filter(|number| store.add(&row_of(*number)).is_ok())
+            .count()
     }
 
     #[test]
     fn a_store_takes_as_many_rows_as_it_has_cells(rt: HostRuntime) -> Result<(), Fail> {
         let heap = rt.alloc();
-        let mut packed = Packed::new(heap, 512)?;
-        assert_eq!(rt; rows_taken(&mut packed, 600), 512, "packed");
-        let mut chained = Chained::new(heap, 512)?;
-        assert_eq!(rt; rows_taken(&mut chained, 600), 512, "chained");
-        let mut ledger = Ledger::new(heap, 512)?;
-        assert_eq!(rt; rows_taken(&mut ledger, 600), 512, "ledger");
+        assert_eq!(rt;
+            rows_taken(&mut Packed::new(heap, 512)?, 600),
+            512,
+            "packed"
+        );
+        assert_eq!(rt;
+            rows_taken(&mut Chained::new(heap, 512)?, 600),
+            512,
+            "chained"
+        );
+        assert_eq!(rt;
+            rows_taken(&mut Ledger::new(heap, 512)?, 600),
+            512,
+            "ledger"
+        );
         Ok(())
     }
 
     #[test]
     fn no_store_has_more_cells_than_the_limit(rt: HostRuntime) -> Result<(), Fail> {
         let heap = rt.alloc();
-        assert_eq!(rt; Packed::new(heap, CELLS)?.capacity() as usize, CELLS);
-        assert_eq!(rt; Packed::new(heap, CELLS + 1)?.capacity() as usize, CELLS);
-        assert_eq!(rt; Chained::new(heap, CELLS)?.capacity() as usize, CELLS);
-        assert_eq!(rt; Chained::new(heap, CELLS + 1)?.capacity() as usize, CELLS);
-        assert_eq!(rt; Ledger::new(heap, CELLS)?.capacity() as usize, CELLS);
-        assert_eq!(rt; Ledger::new(heap, CELLS + 1)?.capacity() as usize, CELLS);
+        for size in [CELLS, CELLS + 1] {
+            assert_eq!(rt;
+                Packed::new(heap, size)?.capacity() as usize,
+                CELLS,
+                "packed"
+            );
+            assert_eq!(rt;
+                Chained::new(heap, size)?.capacity() as usize,
+                CELLS,
+                "chained"
+            );
+            assert_eq!(rt;
+                Ledger::new(heap, size)?.capacity() as usize,
+                CELLS,
+                "ledger"
+            );
+        }
         Ok(())
     }
 
     // How many of so many tables are opened.
-    fn tables_opened<S: RowStore>(store: &mut S, tables: u16) -> u16 {
-        let mut opened = 0;
-        for _ in 0..tables {
-            if store.open(1).is_ok() && opened < tables {
-                opened += 1;
-            }
-        }
-        opened
+    fn tables_opened<S: RowStore>(store: &mut S, tables: u16) -> usize {
+        (0..tables).filter(|_| store.open(1).is_ok()).count()
+    }
+
+    // A table more than a store has places for, and then one of no width.
+    fn expect_full<S: RowStore>(
+        rt: &impl Abort,
+        heap: Global,
+        name: &str,
+        store: &mut S,
+    ) -> Result<(), Fail> {
+        assert_eq!(rt; tables_opened(store, TABLES as u16 + 1), TABLES, "{name}");
+        expect(
+            rt,
+            heap,
+            name,
+            store,
+            "open 1\nopen 0\ndrop\nopen 0\n",
+            "fault 71 store line 0 byte 0\nfault 71 store line 0 byte 0\naccepted\nfault 72 store line 0 byte 0\n",
+        )
     }
 
     #[test]
     fn a_table_too_many_is_refused(rt: HostRuntime) -> Result<(), Fail> {
         let heap = rt.alloc();
-        let mut packed = Packed::new(heap, 0)?;
-        assert_eq!(rt;
-            tables_opened(&mut packed, TABLES as u16 + 1) as usize,
-            TABLES,
-            "packed"
-        );
-        expect(
-            &rt,
-            heap,
-            "packed",
-            &mut packed,
-            "open 1\nopen 0\ndrop\nopen 0\n",
-            "fault 71 store line 0 byte 0\nfault 71 store line 0 byte 0\naccepted\nfault 72 store line 0 byte 0\n",
-        )?;
-        let mut chained = Chained::new(heap, 0)?;
-        assert_eq!(rt;
-            tables_opened(&mut chained, TABLES as u16 + 1) as usize,
-            TABLES,
-            "chained"
-        );
-        expect(
-            &rt,
-            heap,
-            "chained",
-            &mut chained,
-            "open 1\nopen 0\ndrop\nopen 0\n",
-            "fault 71 store line 0 byte 0\nfault 71 store line 0 byte 0\naccepted\nfault 72 store line 0 byte 0\n",
-        )?;
-        let mut ledger = Ledger::new(heap, 0)?;
-        assert_eq!(rt;
-            tables_opened(&mut ledger, TABLES as u16 + 1) as usize,
-            TABLES,
-            "ledger"
-        );
-        expect(
-            &rt,
-            heap,
-            "ledger",
-            &mut ledger,
-            "open 1\nopen 0\ndrop\nopen 0\n",
-            "fault 71 store line 0 byte 0\nfault 71 store line 0 byte 0\naccepted\nfault 72 store line 0 byte 0\n",
-        )
+        expect_full(&rt, heap, "packed", &mut Packed::new(heap, 0)?)?;
+        expect_full(&rt, heap, "chained", &mut Chained::new(heap, 0)?)?;
+        expect_full(&rt, heap, "ledger", &mut Ledger::new(heap, 0)?)
     }
 }
