@@ -1,86 +1,90 @@
 -- The chained store's fields by name, and the facts that its ghost fields are.
-use Rattle.std.proofs.Common.{◌≡◌, ℕ, ◌-◌, ◌≤◌, true, List, ◌++◌, length, take, drop, ℤ, vec_items, sym, ap, ◌∙◌, ap₂}
+use Rattle.std.proofs.Common.{◌≡◌, ℕ, ◌-◌, ◌≤◌, true, List, ◌++◌, length, take, drop, ℤ, sym, ap, ◌∙◌, ap₂}
 use Rattle.std.proofs.lemmas.List.{take_at}
 use Rattle.fault.specs.Limits as limits
-use Rattle.store.specs.Meaning.{Store}
+use Rattle.store.specs.Meaning.{Row, Store}
 use Rattle.store.specs.Sound.{sound_tables}
 use Rattle.directory.specs.Run.{extent, extent_of, decode}
 use Rattle.directory.specs.declared.entry.Entry.{Entry}
 use Rattle.chained.specs.Chains as chain
-use Rattle.chained.specs.Chains.{chains, distinct, under, joined}
+use Rattle.chained.specs.Chains.{values, nexts, walk, chains, distinct, under, joined, put}
+use Rattle.chained.specs.declared.links.Link.{Link}
 use Rattle.chained.specs.declared.store_impl.Chained.{Chained}
+use Rattle.chained.proofs.Projections.{length_values, length_nexts}
 use Rattle.chained.proofs.Keeping.{Kept}
 
 abbrev pub entries : Chained → List Entry
-entries p = vec_items p.tables
+entries p = p.tables.entries.items
 
-abbrev pub cells : Chained → List ℤ
-cells p = vec_items p.cells
-
-abbrev pub links : Chained → List ℕ
-links p = vec_items p.links
+abbrev pub links : Chained → List Link
+links p = p.links.items
 
 abbrev pub run : Chained → List ℤ
-run p = chain.run (entries p) (cells p) (links p)
+run p = chain.run (entries p) (values (links p)) (nexts (links p))
 
 abbrev pub meaning : Chained → Store
-meaning p = chain.chained p.capacity (entries p) (cells p) (links p)
+meaning p = chain.chained p.capacity (entries p) (values (links p)) (nexts (links p))
 
-pub kept : (p : Chained) → Kept p.capacity p.used p.free (entries p) (cells p) (links p)
+pub kept : (p : Chained) → Kept p.capacity p.used p.free (entries p) (values (links p)) (nexts (links p))
 kept p =
     record {
       sound = p.sound;
       full = p.full;
       within = p.within;
       small = p.small;
-      few = p.few;
-      room = p.room;
-      linked = p.linked;
+      few = p.tables.few;
+      room = length_values (links p) ∙ p.room;
+      linked = length_nexts (links p) ∙ p.room;
       apart = p.apart;
       inside = p.inside;
     }
 
 -- the facts as a function that changes the store owes them
-abbrev pub Parts : ℕ → ℕ → ℕ → List Entry → List ℤ → List ℕ → ℕ → Type 0
-Parts c u f es cs ns places =
+abbrev pub Parts : ℕ → ℕ → ℕ → List Entry → List Link → Type 0
+Parts c u f es ls =
     record {
-      sound : sound_tables (decode es (chain.run es cs ns)) ≡ true;
+      sound : sound_tables (decode es (chain.run es (values ls) (nexts ls))) ≡ true;
       full : u ≡ extent es;
       within : u ≤ c;
       small : c ≤ limits.cells;
-      few : length es ≤ limits.tables;
-      places : limits.tables ≤ places;
-      room : length cs ≡ c;
-      linked : length ns ≡ c;
-      apart : distinct (chains ns es (c - u) f) ≡ true;
-      inside : under c (chains ns es (c - u) f) ≡ true;
+      room : length ls ≡ c;
+      apart : distinct (chains (nexts ls) es (c - u) f) ≡ true;
+      inside : under c (chains (nexts ls) es (c - u) f) ≡ true;
     }
 
-pub parts : {c u f : ℕ} {es : List Entry} {cs : List ℤ} {ns : List ℕ} {places : ℕ} → Kept c u f es cs ns → limits.tables ≤ places → Parts c u f es cs ns places
-parts k p =
+pub parts : {c u f : ℕ} {es : List Entry} {cs : List ℤ} (ls : List Link) → values ls ≡ cs → Kept c u f es cs (nexts ls) → Parts c u f es ls
+parts {c} {u} {f} {es} ls is k =
     record {
-      sound = k.sound;
+      sound = ap (λ x. sound_tables (decode es (chain.run es x (nexts ls)))) is ∙ k.sound;
       full = k.full;
       within = k.within;
       small = k.small;
-      few = k.few;
-      places = p;
-      room = k.room;
-      linked = k.linked;
+      room = sym (length_values ls) ∙ ap length is ∙ k.room;
       apart = k.apart;
       inside = k.inside;
     }
+
+-- the cells after a slice of them was lent and came back as `new`
+abbrev pub after_slice : ℕ → List Link → List Link → List Link
+after_slice v new old = take v (new ++ drop (length new) old)
 
 -- what a slice leaves of the list that it was lent from
 pub refilled : {X : Type 0} (v : ℕ) (new slice old : List X) → length new ≡ length slice → slice ≡ old → v ≡ length old → take v (new ++ drop (length new) old) ≡ new
 refilled v new slice old long is v_is = take_at new (drop (length new) old) v (long ∙ ap length is ∙ sym v_is)
 
--- the links after a table's chain was joined to the free one
-pub linked_as : (v : ℕ) (new slice ns : List ℕ) (size : ℕ) (e : Entry) (next : ℕ) → length new ≡ length slice → slice ≡ ns → v ≡ length ns → new ≡ joined slice size e.first next → size ≡ extent_of e → take v (new ++ drop (length new) ns) ≡ joined ns (extent_of e) e.first next
-linked_as v new slice ns size e next long is v_is new_is size_is =
-    refilled v new slice ns long is v_is ∙ new_is ∙ ap (λ x. joined x size e.first next) is ∙ ap (λ n. joined ns n e.first next) size_is
+-- the cells after a table's chain was joined to the free one
+pub joined_as : (v : ℕ) (new slice old : List Link) (size : ℕ) (e : Entry) (next : ℕ) → length new ≡ length slice → slice ≡ old → v ≡ length old → nexts new ≡ joined (nexts slice) size e.first next → values new ≡ values slice → size ≡ extent_of e → (nexts (after_slice v new old) ≡ joined (nexts old) (extent_of e) e.first next) × (values (after_slice v new old) ≡ values old)
+joined_as v new slice old size e next long is v_is nexts_are values_are size_is =
+    let back = refilled v new slice old long is v_is in
+    (ap nexts back ∙ nexts_are ∙ ap₂ (λ x n. joined (nexts x) n e.first next) is size_is, ap values back ∙ values_are ∙ ap values is)
 
--- a chain within the store's cells is within the links
-pub chain_low : (c size : ℕ) (e : Entry) (slice ns : List ℕ) → slice ≡ ns → length ns ≡ c → size ≡ extent_of e → under c (chain.walk ns (extent_of e) e.first) ≡ true → under (length slice) (chain.walk slice size e.first) ≡ true
-chain_low c size e slice ns is linked size_is u =
-    ap (λ x. under (length x) (chain.walk x size e.first)) is ∙ ap₂ (λ n k. under n (chain.walk ns k e.first)) linked size_is ∙ u
+-- the cells after a row was written into them
+pub written_as : (v : ℕ) (new slice old : List Link) (row : Row) (from : ℕ) → length new ≡ length slice → slice ≡ old → v ≡ length old → values new ≡ put (values slice) (walk (nexts slice) (length row) from) row → nexts new ≡ nexts slice → (values (after_slice v new old) ≡ put (values old) (walk (nexts old) (length row) from) row) × (nexts (after_slice v new old) ≡ nexts old)
+written_as v new slice old row from long is v_is values_are nexts_are =
+    let back = refilled v new slice old long is v_is in
+    (ap values back ∙ values_are ∙ ap (λ x. put (values x) (walk (nexts x) (length row) from) row) is, ap nexts back ∙ nexts_are ∙ ap nexts is)
+
+-- a chain within the store's cells is within the slice of them
+pub chain_low : (c size : ℕ) (e : Entry) (slice old : List Link) → slice ≡ old → length old ≡ c → size ≡ extent_of e → under c (walk (nexts old) (extent_of e) e.first) ≡ true → under (length slice) (walk (nexts slice) size e.first) ≡ true
+chain_low c size e slice old is room size_is u =
+    ap (λ x. under (length x) (walk (nexts x) size e.first)) is ∙ ap₂ (λ n k. under n (walk (nexts old) k e.first)) room size_is ∙ u

@@ -1,5 +1,5 @@
 -- Two chains joined: what is on the joined chain, and that all other chains stay as they are.
-use Rattle.std.proofs.Common.{◌≡◌, ℕ, zero, suc, ◌+◌, ◌-◌, ◌<◌, ◌≤◌, true, not, eqb, ltb, List, [], ◌∷◌, ◌++◌, length, set, sym, refl, ap, ◌∙◌, subst, ap₂, zero-add, arith}
+use Rattle.std.proofs.Common.{◌≡◌, ℕ, zero, suc, ◌+◌, ◌-◌, ◌<◌, ◌≤◌, true, not, eqb, ltb, List, [], ◌∷◌, ◌++◌, length, set, sym, refl, ap, ◌∙◌, ap₂, zero-add, arith}
 use Rattle.std.proofs.lemmas.Bool.{and_from, and_parts}
 use Rattle.std.proofs.lemmas.List.{append_assoc, length-set, length-append}
 use Rattle.directory.specs.Run.{extent_of, extent}
@@ -28,14 +28,6 @@ pub under_front : (m : ℕ) (ns : List ℕ) (n k i : ℕ) → n ≤ k → under 
 under_front m ns n k i l u =
     let e : k ≡ n + (k - n) = omega arith in
     (under_append m (walk ns n i) (walk ns (k - n) (step ns n i)) (ap (under m) (sym (walk_add ns n (k - n) i)) ∙ ap (λ j. under m (walk ns j i)) (sym e) ∙ u)).0
-
--- the walk to that cell stays within the cells
-pub join_part : (ns : List ℕ) (size first : ℕ) → under (length ns) (walk ns size first) ≡ true → under (length ns) (walk ns (size - 1) first) ≡ true
-join_part ns size first u = under_front (length ns) ns (size - 1) size first (omega arith) u
-
--- and ends at one
-pub join_low : (ns : List ℕ) (size first last : ℕ) → 0 < size → under (length ns) (walk ns size first) ≡ true → last ≡ step ns (size - 1) first → last < length ns
-join_low ns size first last p u e = subst (λ x. x < length ns) (sym e) (step_under (length ns) ns size (size - 1) first (omega arith) u)
 
 -- Places.
 

@@ -1,12 +1,14 @@
 -- What always holds of the chained store's fields, and that each call keeps it. What the directory says of a run does the rest.
-use Rattle.std.proofs.Common.{◌≡◌, ℕ, ◌+◌, ◌-◌, ◌*◌, ◌<◌, ◌≤◌, true, List, [], ◌∷◌, ◌++◌, length, take, drop, ℤ, sym, refl, ap, ◌∙◌, ap₂, add-mul, one-mul, zero-mul, arith}
+use Rattle.std.proofs.Common.{◌≡◌, ℕ, ◌+◌, ◌-◌, ◌*◌, ◌<◌, ◌≤◌, true, List, [], ◌∷◌, ◌++◌, length, take, drop, ℤ, Result, Ok, Err, sym, refl, ap, ◌∙◌, subst, ap₂, add-mul, one-mul, zero-mul, arith}
 use Rattle.std.specs.List.{range_with_len}
 use Rattle.std.proofs.lemmas.List.FromFn.{length-range_with_len}
 use Rattle.std.proofs.lemmas.List.{take_at, drop_at, length-append, append_assoc, append-nil}
+use Rattle.fault.specs.declared.rules.Fault.{Fault}
 use Rattle.fault.specs.Limits.{columns, tables, cells}
 use Rattle.store.specs.Meaning.{Row}
 use Rattle.store.specs.Sound.{sound_tables}
 use Rattle.directory.specs.Run.{extent, extent_of, decode}
+use Rattle.directory.specs.Tables.{Opened}
 use Rattle.directory.specs.declared.entry.Entry.{Entry}
 use Rattle.directory.proofs.Keeping.{Held, held_open, held_drop, extent_open, extent_drop}
 use Rattle.chained.specs.Chains.{walk, step, places, chains, gather, run, distinct, under, put, head_of, joined}
@@ -88,6 +90,15 @@ run_open es fs cs ns w is = ap (gather cs) (places_open ns es fs w is)
 pub kept_open : {c u f : ℕ} {es : List Entry} {cs : List ℤ} {ns : List ℕ} (w : ℕ) (fs : List Entry) → Kept c u f es cs ns → length es < tables → 1 ≤ w → w ≤ columns → fs ≡ es ++ record { first = 0; width = w; count = 0 } ∷ [] → Kept c u f fs cs ns
 kept_open {c} {u} {f} {es} {cs} {ns} w fs k l lo hi is =
     kept_from c u f fs cs (run es cs ns) ns (chains ns es (c - u) f) (held_open 0 w fs (held_kept k) l lo hi is) (run_open es fs cs ns w is) (k.full ∙ sym (extent_open es fs 0 w is)) k.room k.linked (ap (λ x. x ++ walk ns (c - u) f) (places_open ns es fs w is)) k.apart k.inside
+
+-- the same, from what opening a table in the directory comes to
+pub kept_opened : {c u f : ℕ} {es : List Entry} {cs : List ℤ} {ns : List ℕ} (w : ℕ) (r : Result (Unit {0}) Fault) (fs : List Entry) → Kept c u f es cs ns → Opened es w (record { first = 0; width = w; count = 0 }) r fs → Kept c u f fs cs ns
+kept_opened w (Ok x) fs k o = kept_open w fs k o.0 o.1.0 o.1.1.0 o.1.1.1
+kept_opened {c} {u} {f} {es} {cs} {ns} w (Err x) fs k o = subst (λ es. Kept c u f es cs ns) (sym o.0) k
+
+pub run_opened : (es : List Entry) (w : ℕ) (r : Result (Unit {0}) Fault) (fs : List Entry) (cs : List ℤ) (ns : List ℕ) → Opened es w (record { first = 0; width = w; count = 0 }) r fs → run fs cs ns ≡ run es cs ns
+run_opened es w (Ok x) fs cs ns o = run_open es fs cs ns w o.1.1.1
+run_opened es w (Err x) fs cs ns o = ap (λ es. run es cs ns) o.0
 
 -- The last table's chain joined to the free one: `ms` are the links then.
 module _ {c u f : ℕ} {es : List Entry} {cs : List ℤ} {ns : List ℕ} (k : Kept c u f es cs ns) (fs : List Entry) (e : Entry) (is : es ≡ fs ++ e ∷ []) where

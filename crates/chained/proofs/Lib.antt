@@ -1,3 +1,4 @@
+pub mod Projections
 pub mod Walks
 pub mod Writing
 pub mod RowLoops

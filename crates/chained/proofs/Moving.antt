@@ -13,14 +13,11 @@ use Rattle.chained.proofs.Stretches.{Four, four, cross_append}
 use Rattle.chained.proofs.Joining.{places_append, length_places, length_joined, join_chain, join_walk, join_places, swap_distinct, swap_under}
 use Rattle.chained.proofs.Keeping.{Kept, held_kept, length_run, kept_from}
 
--- old is entry n of m, and last the last
-module _ {c u f : ℕ} {es : List Entry} {cs : List ℤ} {ns : List ℕ} (k : Kept c u f es cs ns) (n m : ℕ) (old last : Entry)
-    (lt : n + 1 < m) (m_is : m ≡ length es) (old_is : old ≡ get_or es n old) (last_is : last ≡ get_or es (m - 1) last) where
+-- old is entry n, and last the last
+module _ {c u f : ℕ} {es : List Entry} {cs : List ℤ} {ns : List ℕ} (k : Kept c u f es cs ns) (n : ℕ) (old last : Entry)
+    (lt : n + 1 < length es) (old_is : old ≡ get_or es n old) (last_is : last ≡ get_or es (length es - 1) last) where
   the_split : Split es (run es cs ns) n old last
-  the_split = split es (run es cs ns) n old last (omega arith) old_is (last_is ∙ ap (λ i. get_or es i last) at) (sym (length_run es cs ns))
-    where
-      at : m - 1 ≡ length es - 1
-      at = omega arith
+  the_split = split es (run es cs ns) n old last lt old_is last_is (sym (length_run es cs ns))
 
   module _ (p : Split es (run es cs ns) n old last) where
     abbrev A : List ℕ
@@ -59,7 +56,7 @@ module _ {c u f : ℕ} {es : List Entry} {cs : List ℤ} {ns : List ℕ} (k : Ke
         k.full ∙ ap extent p.entries ∙ omega (arith, extent_append (p.before ++ old ∷ p.between) (last ∷ []), extent_append p.before (old ∷ p.between))
 
     module _ (ms : List ℕ) (u' f' : ℕ) (es' : List Entry) (ms_is : ms ≡ joined ns (extent_of old) old.first f) (f'_is : f' ≡ head_of (extent_of old) old.first f)
-        (u'_is : u' ≡ u - extent_of old) (es'_is : es' ≡ set (take (m - 1) es) n last) where
+        (u'_is : u' ≡ u - extent_of old) (es'_is : es' ≡ set (take (length es - 1) es) n last) where
       apart_two : (cross G M ≡ true) × (cross G L ≡ true)
       apart_two = cross_append G M L parts.XY
 
@@ -79,8 +76,8 @@ module _ {c u f : ℕ} {es : List Entry} {cs : List ℤ} {ns : List ℕ} (k : Ke
 
       entries_are : es' ≡ p.before ++ last ∷ p.between
       entries_are =
-          let i : length (p.before ++ old ∷ p.between) ≡ m - 1 = omega (arith, ap length p.entries, length-append (p.before ++ old ∷ p.between) (last ∷ [])) in
-          es'_is ∙ ap (λ x. set x n last) (ap (take (m - 1)) p.entries ∙ take_at (p.before ++ old ∷ p.between) (last ∷ []) (m - 1) i) ∙ set_at p.before old p.between last n p.place
+          let i : length (p.before ++ old ∷ p.between) ≡ length es - 1 = omega (arith, ap length p.entries, length-append (p.before ++ old ∷ p.between) (last ∷ [])) in
+          es'_is ∙ ap (λ x. set x n last) (ap (take (length es - 1)) p.entries ∙ take_at (p.before ++ old ∷ p.between) (last ∷ []) (length es - 1) i) ∙ set_at p.before old p.between last n p.place
 
       places_are : places ms es' ≡ A ++ (L ++ M)
       places_are = ap (places ms) entries_are ∙ places_append ms p.before (last ∷ p.between) ∙ ap₂ (λ x y. x ++ (y ++ places ms p.between)) before moved ∙ ap (λ x. A ++ (L ++ x)) between
@@ -108,9 +105,6 @@ module _ {c u f : ℕ} {es : List Entry} {cs : List ℤ} {ns : List ℕ} (k : Ke
       run_settle : run es' cs ms ≡ cells_after again
       run_settle = ap (gather cs) places_are ∙ gather_append cs A (L ++ M) ∙ ap (λ x. gather cs A ++ x) (gather_append cs L M)
 
-      directory : es' ≡ set (take (length es - 1) es) n last
-      directory = es'_is ∙ ap (λ i. set (take (i - 1) es) n last) m_is
-
       one : A ++ (G ++ ((M ++ L) ++ F)) ≡ A ++ ((G ++ M) ++ (L ++ F))
       one = ap (λ x. A ++ x) (ap (λ x. G ++ x) (append_assoc M L F) ∙ sym (append_assoc G M (L ++ F)))
 
@@ -122,10 +116,10 @@ module _ {c u f : ℕ} {es : List Entry} {cs : List ℤ} {ns : List ℕ} (k : Ke
 
       kept_settle_at : Kept c u' f' es' cs ms
       kept_settle_at =
-          kept_from c u' f' es' cs (run es' cs ms) ms ((A ++ L) ++ (M ++ (G ++ F))) (held_settle again es' (run es' cs ms) (held_kept k) (omega arith) directory run_settle) refl (omega (arith, u'_is, sizes, ap extent entries_are, extent_append p.before (last ∷ p.between))) k.room (ap length ms_is ∙ length_joined ns (extent_of old) old.first f ∙ k.linked) (ap₂ ◌++◌ places_are freed ∙ sym three) (swap_distinct (A ++ L) G M F (ap distinct (sym two) ∙ swap_distinct A (G ++ M) L F (ap distinct (sym one ∙ sym whole) ∙ k.apart))) (swap_under c (A ++ L) G M F (ap (under c) (sym two) ∙ swap_under c A (G ++ M) L F (ap (under c) (sym one ∙ sym whole) ∙ k.inside)))
+          kept_from c u' f' es' cs (run es' cs ms) ms ((A ++ L) ++ (M ++ (G ++ F))) (held_settle again es' (run es' cs ms) (held_kept k) (omega arith) es'_is run_settle) refl (omega (arith, u'_is, sizes, ap extent entries_are, extent_append p.before (last ∷ p.between))) k.room (ap length ms_is ∙ length_joined ns (extent_of old) old.first f ∙ k.linked) (ap₂ ◌++◌ places_are freed ∙ sym three) (swap_distinct (A ++ L) G M F (ap distinct (sym two) ∙ swap_distinct A (G ++ M) L F (ap distinct (sym one ∙ sym whole) ∙ k.apart))) (swap_under c (A ++ L) G M F (ap (under c) (sym two) ∙ swap_under c A (G ++ M) L F (ap (under c) (sym one ∙ sym whole) ∙ k.inside)))
 
       settle_decodes_at : decode es' (run es' cs ms) ≡ set (take (last_place (laid c es (run es cs ns))) (decode es (run es cs ns))) n (last_table (laid c es (run es cs ns)))
-      settle_decodes_at = ap₂ decode directory run_settle ∙ decode_settle again c
+      settle_decodes_at = ap₂ decode es'_is run_settle ∙ decode_settle again c
 
   -- the cells of the table that goes are within the store's
   pub settle_inside : under c (walk ns (extent_of old) old.first) ≡ true
@@ -138,7 +132,7 @@ module _ {c u f : ℕ} {es : List Entry} {cs : List ℤ} {ns : List ℕ} (k : Ke
       go p = omega (arith, sizes p)
 
   module _ (ms : List ℕ) (u' f' : ℕ) (es' : List Entry) (ms_is : ms ≡ joined ns (extent_of old) old.first f) (f'_is : f' ≡ head_of (extent_of old) old.first f)
-      (u'_is : u' ≡ u - extent_of old) (es'_is : es' ≡ set (take (m - 1) es) n last) where
+      (u'_is : u' ≡ u - extent_of old) (es'_is : es' ≡ set (take (length es - 1) es) n last) where
     pub kept_settle : Kept c u' f' es' cs ms
     kept_settle = kept_settle_at the_split ms u' f' es' ms_is f'_is u'_is es'_is
 

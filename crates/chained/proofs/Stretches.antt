@@ -95,9 +95,6 @@ pub record Four (P X Y R : List ℕ) : Type 0 where
   pub YX : cross Y X ≡ true
   pub YR : cross Y R ≡ true
 
-cross_flip : (xs ys : List ℕ) → distinct (xs ++ ys) ≡ true → cross ys xs ≡ true
-cross_flip xs ys h = (distinct_append xs ys h).1
-
 distinct_mid : (xs ys zs : List ℕ) → distinct (xs ++ (ys ++ zs)) ≡ true → (cross ys xs ≡ true)
 distinct_mid xs [] zs h = refl
 distinct_mid xs (y ∷ ys) zs h =

@@ -1,18 +1,10 @@
 -- Chains: walks, steps, and the chain that a new store has.
-use Rattle.std.proofs.Common.{◌≡◌, ℕ, zero, suc, ◌+◌, ◌-◌, ◌<◌, ◌≤◌, true, not, eqb, ltb, List, [], ◌∷◌, ◌++◌, length, get_or, ℤ, pos, sym, refl, ap, ◌∙◌, subst, add-zero, suc-add, zero-add, add-one, arith}
+use Rattle.std.proofs.Common.{◌≡◌, ℕ, zero, suc, ◌+◌, ◌-◌, ◌<◌, ◌≤◌, true, not, eqb, ltb, List, [], ◌∷◌, ◌++◌, length, get_or, ℤ, pos, sym, refl, ap, ◌∙◌, subst, suc-add, zero-add, arith}
 use Rattle.std.specs.List.{range_with_len}
 use Rattle.std.proofs.lemmas.List.FromFn.{get_or-range_with_len}
 use Rattle.std.proofs.lemmas.Bool.{and_from, and_parts, not_from_false, ne_eqb, lt-ltb, ltb-true}
 use Rattle.std.proofs.lemmas.List.{map-append, length-map}
 use Rattle.chained.specs.Chains.{walk, step, gather, absent, distinct, under}
-
--- one number more at the end
-pub counting_push : (a n : ℕ) → range_with_len a (n + 1) ≡ range_with_len a n ++ (a + n) ∷ []
-counting_push a n = ap (range_with_len a) (add-one n) ∙ go a n
-  where
-    go : (a n : ℕ) → range_with_len a (suc n) ≡ range_with_len a n ++ (a + n) ∷ []
-    go a zero = ap (λ x. x ∷ []) (sym (add-zero a))
-    go a (suc n) = ap (λ xs. a ∷ xs) (go (a + 1) n ∙ ap (λ x. range_with_len (a + 1) n ++ x ∷ []) (omega arith))
 
 -- in a new store each cell is linked to the one after it
 pub walk_counting : (n k h : ℕ) → h + k ≤ n → walk (range_with_len 1 n) k h ≡ range_with_len h k
@@ -64,11 +56,6 @@ pub under_get_d : (m : ℕ) (is : List ℕ) (i d : ℕ) → under m is ≡ true 
 under_get_d m [] i d h l = absurd (omega arith)
 under_get_d m (x ∷ is) zero d h l = ltb-true x m (and_parts (ltb x m) (under m is) h).0
 under_get_d m (x ∷ is) (suc i) d h l = under_get_d m is i d (and_parts (ltb x m) (under m is) h).1 (omega arith)
-
--- each place of the chain is a cell
-pub step_inside : (ns : List ℕ) (c h i : ℕ) → under c (walk ns c h) ≡ true → i < c → step ns i h < c
-step_inside ns c h i u l =
-    subst (λ x. x < c) (get_d_walk ns c i h 0 l) (under_get_d c (walk ns c h) i 0 u (omega (arith, length_walk ns c h)))
 
 -- a cell for each place
 pub length_gather : (cs : List ℤ) (is : List ℕ) → length (gather cs is) ≡ length is

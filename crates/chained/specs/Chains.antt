@@ -2,7 +2,16 @@
 use Rattle.std.specs.Prelude.{ℕ, zero, suc, Bool, true, not, ◌&&◌, List, [], ◌∷◌, ◌++◌, map, ℤ, pos, ◌==◌, nat_lt, slice_index, slice_index_or, slice_set}
 use Rattle.store.specs.Meaning.{Store}
 use Rattle.directory.specs.Run.{laid, extent_of}
+use Rattle.chained.specs.declared.links.Link.{Link}
 use Rattle.directory.specs.declared.entry.Entry.{Entry}
+
+-- what the cells hold
+abbrev pub values : List Link → List ℤ
+values ls = map (λ l. l.value) ls
+
+-- the cell that each is linked to
+abbrev pub nexts : List Link → List ℕ
+nexts ls = map (λ l. l.next) ls
 
 -- the first n cells of the chain that begins at h
 abbrev pub walk : List ℕ → ℕ → ℕ → List ℕ

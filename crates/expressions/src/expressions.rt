@@ -6,7 +6,7 @@ ghost use Rattle.grammar.specs.Parts.{argument_of};
 ghost use Rattle.grammar.specs.Promise.{any_token};
 ghost use Rattle.grammar.specs.Readers.{rest, factors_at, brackets_at, expressions_at};
 ghost use Rattle.phrases.specs.Places.{pays_ahead};
-ghost use Rattle.phrases.specs.States.{Numbers, NumbersOn, Follows, GoesOn, opened};
+ghost use Rattle.phrases.specs.States.{SameArena, AtToken, Numbers, NumbersOn, Follows, GoesOn, opened};
 ghost use Rattle.grammar.specs.Parts.{Argument.extend_argument};
 ghost use Rattle.expressions.specs.declared.sorts.Level.TheVariants as rank;
 ghost use Rattle.expressions.specs.declared.sorts.Turn.TheVariants as turn;
@@ -26,7 +26,7 @@ use words::Sign;
 // expr → bool-term { (and | or) bool-term }
 #[cycle(expression)]
 pub fn expr(parser: &mut Parser<'_>, depth: u8) -> Result<u16, Fault>
-    ensures lent { parser.new.nodes.ghost_name ≡ parser.old.nodes.ghost_name }
+    ensures lent { SameArena parser.old parser.new }
     ensures numbers { OnOk result (Numbers parser.old parser.new) }
     ensures answer { Follows Expressed (expressions_at any_token depth) parser.old parser.new result }
 {
@@ -36,7 +36,7 @@ pub fn expr(parser: &mut Parser<'_>, depth: u8) -> Result<u16, Fault>
 // bool-term → comp-term [ (== | != | > | >= | < | <=) comp-term ]
 #[cycle(expression)]
 fn bool_term(parser: &mut Parser<'_>, depth: u8) -> Result<u16, Fault>
-    ensures lent { parser.new.nodes.ghost_name ≡ parser.old.nodes.ghost_name }
+    ensures lent { SameArena parser.old parser.new }
     ensures numbers { OnOk result (Numbers parser.old parser.new) }
     ensures answer { Follows Expressed (level_reader depth rank.Comparison) parser.old parser.new result }
 {
@@ -46,7 +46,7 @@ fn bool_term(parser: &mut Parser<'_>, depth: u8) -> Result<u16, Fault>
 // comp-term → low-term { (+ | -) low-term }
 #[cycle(expression)]
 fn comp_term(parser: &mut Parser<'_>, depth: u8) -> Result<u16, Fault>
-    ensures lent { parser.new.nodes.ghost_name ≡ parser.old.nodes.ghost_name }
+    ensures lent { SameArena parser.old parser.new }
     ensures numbers { OnOk result (Numbers parser.old parser.new) }
     ensures answer { Follows Expressed (level_reader depth rank.Sum) parser.old parser.new result }
 {
@@ -56,7 +56,7 @@ fn comp_term(parser: &mut Parser<'_>, depth: u8) -> Result<u16, Fault>
 // low-term → factor { (* | / | join-op) factor }
 #[cycle(expression)]
 fn low_term(parser: &mut Parser<'_>, depth: u8) -> Result<u16, Fault>
-    ensures lent { parser.new.nodes.ghost_name ≡ parser.old.nodes.ghost_name }
+    ensures lent { SameArena parser.old parser.new }
     ensures numbers { OnOk result (Numbers parser.old parser.new) }
     ensures answer { Follows Expressed (level_reader depth rank.Product) parser.old parser.new result }
 {
@@ -66,7 +66,7 @@ fn low_term(parser: &mut Parser<'_>, depth: u8) -> Result<u16, Fault>
 // An operand, and the operators of the level behind it with theirs.
 #[cycle(expression)]
 fn level(parser: &mut Parser<'_>, depth: u8, level: Level) -> Result<u16, Fault>
-    ensures lent { parser.new.nodes.ghost_name ≡ parser.old.nodes.ghost_name }
+    ensures lent { SameArena parser.old parser.new }
     ensures numbers { OnOk result (Numbers parser.old parser.new) }
     ensures answer { Follows Expressed (level_reader depth level) parser.old parser.new result }
 {
@@ -77,7 +77,7 @@ fn level(parser: &mut Parser<'_>, depth: u8, level: Level) -> Result<u16, Fault>
 // What stands on either side of an operator of the level.
 #[cycle(expression)]
 fn operand(parser: &mut Parser<'_>, depth: u8, level: Level) -> Result<u16, Fault>
-    ensures lent { parser.new.nodes.ghost_name ≡ parser.old.nodes.ghost_name }
+    ensures lent { SameArena parser.old parser.new }
     ensures numbers { OnOk result (Numbers parser.old parser.new) }
     ensures answer { Follows Expressed (operand_reader depth level) parser.old parser.new result }
 {
@@ -92,7 +92,7 @@ fn operand(parser: &mut Parser<'_>, depth: u8, level: Level) -> Result<u16, Faul
 // The operators of the level that follow, joined to the left.
 #[cycle(expression)]
 fn more(parser: &mut Parser<'_>, depth: u8, level: Level, left: u16) -> Result<u16, Fault>
-    ensures lent { parser.new.nodes.ghost_name ≡ parser.old.nodes.ghost_name }
+    ensures lent { SameArena parser.old parser.new }
     ensures numbers { OnOk result (NumbersOn parser.old parser.new) }
     ensures answer { GoesOn Expressed (rest (operand_reader depth level) (brackets_at any_token depth) (level_of level)) left parser.old parser.new result }
 {
@@ -113,7 +113,7 @@ fn operated(
     operator: Operator,
 ) -> Result<u16, Fault>
     requires takes { turn.Take operator ≡ turn_in level (spoken parser.old.ahead.token) }
-    ensures lent { parser.new.nodes.ghost_name ≡ parser.old.nodes.ghost_name }
+    ensures lent { SameArena parser.old parser.new }
     ensures numbers { OnOk result (NumbersOn parser.old parser.new) }
     ensures answer { GoesOn Expressed (rest (operand_reader depth level) (brackets_at any_token depth) (level_of level)) left parser.old parser.new result }
 {
@@ -128,7 +128,7 @@ fn operated(
 #[cycle(expression)]
 fn joined(parser: &mut Parser<'_>, depth: u8, level: Level, left: u16) -> Result<u16, Fault>
     requires takes { turn.Join ≡ turn_in level (spoken parser.old.ahead.token) }
-    ensures lent { parser.new.nodes.ghost_name ≡ parser.old.nodes.ghost_name }
+    ensures lent { SameArena parser.old parser.new }
     ensures numbers { OnOk result (NumbersOn parser.old parser.new) }
     ensures answer { GoesOn Expressed (rest (operand_reader depth level) (brackets_at any_token depth) (level_of level)) left parser.old parser.new result }
 {
@@ -143,7 +143,7 @@ fn joined(parser: &mut Parser<'_>, depth: u8, level: Level, left: u16) -> Result
 // factor → unary-op factor | ( expr ) | id | constant
 #[cycle(expression)]
 fn factor(parser: &mut Parser<'_>, depth: u8) -> Result<u16, Fault>
-    ensures lent { parser.new.nodes.ghost_name ≡ parser.old.nodes.ghost_name }
+    ensures lent { SameArena parser.old parser.new }
     ensures numbers { OnOk result (Numbers parser.old parser.new) }
     ensures answer { Follows Expressed (factors_at any_token depth) parser.old parser.new result }
 {
@@ -161,8 +161,8 @@ fn factor(parser: &mut Parser<'_>, depth: u8) -> Result<u16, Fault>
 // unary-op → - | not
 #[cycle(expression)]
 fn negation(parser: &mut Parser<'_>, depth: u8, sign: Negation) -> Result<u16, Fault>
-    requires token { 0 < pays_ahead (spoken parser.old.ahead.token) }
-    ensures lent { parser.new.nodes.ghost_name ≡ parser.old.nodes.ghost_name }
+    requires token { AtToken parser.old }
+    ensures lent { SameArena parser.old parser.new }
     ensures numbers { OnOk result (Numbers parser.old parser.new) }
     ensures answer { Follows Expressed (opened depth (negation_behind (negation_of sign))) parser.old parser.new result }
 {
@@ -175,8 +175,8 @@ fn negation(parser: &mut Parser<'_>, depth: u8, sign: Negation) -> Result<u16, F
 // The operators with brackets: project, rename, select, exists, all, update, extend.
 #[cycle(expression)]
 fn unary(parser: &mut Parser<'_>, depth: u8, operator: Unary) -> Result<u16, Fault>
-    requires token { 0 < pays_ahead (spoken parser.old.ahead.token) }
-    ensures lent { parser.new.nodes.ghost_name ≡ parser.old.nodes.ghost_name }
+    requires token { AtToken parser.old }
+    ensures lent { SameArena parser.old parser.new }
     ensures numbers { OnOk result (Numbers parser.old parser.new) }
     ensures answer { Follows Expressed (opened depth (unary_behind (unary_of operator))) parser.old parser.new result }
 {
@@ -193,7 +193,7 @@ fn unary(parser: &mut Parser<'_>, depth: u8, operator: Unary) -> Result<u16, Fau
 // What stands in the brackets of an operator.
 #[cycle(expression)]
 fn inside(parser: &mut Parser<'_>, depth: u8, operator: Unary) -> Result<u16, Fault>
-    ensures lent { parser.new.nodes.ghost_name ≡ parser.old.nodes.ghost_name }
+    ensures lent { SameArena parser.old parser.new }
     ensures numbers { OnOk result (Numbers parser.old parser.new) }
     ensures answer { Follows (Inside (argument_of (unary_of operator))) (inside_reader depth (argument_of (unary_of operator))) parser.old parser.new result }
 {
@@ -208,7 +208,7 @@ fn inside(parser: &mut Parser<'_>, depth: u8, operator: Unary) -> Result<u16, Fa
 // atomic-type id = expr
 #[cycle(expression)]
 fn extended(parser: &mut Parser<'_>, depth: u8) -> Result<u16, Fault>
-    ensures lent { parser.new.nodes.ghost_name ≡ parser.old.nodes.ghost_name }
+    ensures lent { SameArena parser.old parser.new }
     ensures numbers { OnOk result (Numbers parser.old parser.new) }
     ensures answer { Follows (Inside extend_argument) (inside_reader depth extend_argument) parser.old parser.new result }
 {
@@ -219,7 +219,7 @@ fn extended(parser: &mut Parser<'_>, depth: u8) -> Result<u16, Fault>
 // id = expr
 #[cycle(expression)]
 pub fn assigned(parser: &mut Parser<'_>, depth: u8) -> Result<u16, Fault>
-    ensures lent { parser.new.nodes.ghost_name ≡ parser.old.nodes.ghost_name }
+    ensures lent { SameArena parser.old parser.new }
     ensures numbers { OnOk result (Numbers parser.old parser.new) }
     ensures answer { Follows Assigned (assigned_reader depth) parser.old parser.new result }
 {
@@ -231,7 +231,7 @@ pub fn assigned(parser: &mut Parser<'_>, depth: u8) -> Result<u16, Fault>
 // The bracket of a join or of a specifier: [ expr ]
 #[cycle(expression)]
 pub fn bracket(parser: &mut Parser<'_>, depth: u8) -> Result<u16, Fault>
-    ensures lent { parser.new.nodes.ghost_name ≡ parser.old.nodes.ghost_name }
+    ensures lent { SameArena parser.old parser.new }
     ensures numbers { OnOk result (Numbers parser.old parser.new) }
     ensures answer { Follows Expressed (brackets_at any_token depth) parser.old parser.new result }
 {
@@ -244,8 +244,8 @@ pub fn bracket(parser: &mut Parser<'_>, depth: u8) -> Result<u16, Fault>
 // An expression one deeper, up to the sign that closes it.
 #[cycle(expression)]
 fn enclosed(parser: &mut Parser<'_>, depth: u8, closing: Sign) -> Result<u16, Fault>
-    requires token { 0 < pays_ahead (spoken parser.old.ahead.token) }
-    ensures lent { parser.new.nodes.ghost_name ≡ parser.old.nodes.ghost_name }
+    requires token { AtToken parser.old }
+    ensures lent { SameArena parser.old parser.new }
     ensures numbers { OnOk result (Numbers parser.old parser.new) }
     ensures answer { Follows Expressed (opened depth (enclosed_behind (closing_token closing))) parser.old parser.new result }
 {

@@ -6,7 +6,7 @@ ghost use Rattle.grammar.specs.Parts.{code_in};
 ghost use Rattle.expressions.specs.Starts.{instance_of};
 ghost use Rattle.words.specs.Views.{spoken};
 ghost use Rattle.phrases.specs.Places.{pays_ahead};
-ghost use Rattle.phrases.specs.States.{code_ahead, Numbers, Follows};
+ghost use Rattle.phrases.specs.States.{SameArena, AtToken, code_ahead, Numbers, Follows};
 ghost use Rattle.expressions.specs.Shapes.{Expressed, table_reader};
 
 use crate::sorts::Instance;
@@ -29,8 +29,8 @@ fn instance(parser: &Parser<'_>) -> Instance
 
 // table-const → { tuple-list | atomic-type-list }
 pub fn table_const(parser: &mut Parser<'_>, depth: u8) -> Result<u16, Fault>
-    requires token { 0 < pays_ahead (spoken parser.old.ahead.token) }
-    ensures lent { parser.new.nodes.ghost_name ≡ parser.old.nodes.ghost_name }
+    requires token { AtToken parser.old }
+    ensures lent { SameArena parser.old parser.new }
     ensures numbers { OnOk result (Numbers parser.old parser.new) }
     ensures answer { Follows Expressed (table_reader depth) parser.old parser.new result }
 {

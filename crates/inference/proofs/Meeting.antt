@@ -1,39 +1,22 @@
 -- Names of columns, sought among attributes.
-use Rattle.std.proofs.Common.{◌≡◌, ℕ, ◌-◌, ◌<◌, ◌≤◌, true, false, ◌||◌, List, [], ◌∷◌, map, length, get_or, take, drop, Some, None, Ok, Err, Option, sym, refl, ap, ◌∙◌, arith}
-use Rattle.std.proofs.lemmas.List.{nil_from_length}
+use Rattle.std.proofs.Common.{◌≡◌, ℕ, ◌||◌, List, [], ◌∷◌, map, get_or, Some, None, Ok, Err, Option, refl, ap, ◌∙◌, arith}
+use Rattle.std.specs.List.{list_any}
 use Rattle.fault.specs.declared.rules.Rule.TheVariants.{NameNotFound}
 use Rattle.words.specs.Tokens.{Bytes, Place}
 use Rattle.schema.specs.Columns.{Column, name_of, column_of}
 use Rattle.schema.specs.declared.attributes.Attribute.{Attribute}
-use Rattle.schema.proofs.Fronts.{cut_one}
 use Rattle.scope.specs.Names.{called}
 use Rattle.scope.specs.Chains.{Newest, newest_of, position_of, find}
-use Rattle.scope.proofs.Searches.{any_map, position_any, no_position_any, newest_map, newest_entry}
+use Rattle.scope.proofs.Searches.{newest_map, newest_entry}
 use Rattle.typing.specs.Environments.{fault, is_column}
-use Rattle.typing.specs.Tables.{has, meet, meets_in}
+use Rattle.typing.specs.Tables.{meet, meets_in}
 use Rattle.typing.specs.Checker.{bind, or_absent}
 
 module _ (text : List ℕ) where
-  pub has_some : (own : List Attribute) (n : Bytes) (k : ℕ) → Some k ≡ position_of (newest_of (λ a. called (name_of text a) n) own) → true ≡ has (map (column_of text) own) n
-  has_some own n k h = position_any (λ a. called (name_of text a) n) own k h ∙ sym (any_map (column_of text) (is_column n) own)
-
-  pub has_none : (own : List Attribute) (n : Bytes) → None ≡ position_of (newest_of (λ a. called (name_of text a) n) own) → false ≡ has (map (column_of text) own) n
-  has_none own n h = no_position_any (λ a. called (name_of text a) n) own h ∙ sym (any_map (column_of text) (is_column n) own)
-
-  -- One attribute of the left, and the rest of it.
-  meet_front : (own : List Attribute) (d : Attribute) (ds : List Column) → 1 ≤ length own →
-      meet (map (column_of text) own) ds ≡ meets_in ds (name_of text (get_or own 0 d)) || meet (map (column_of text) (take (length own - 1) (drop 1 own))) ds
-  meet_front own d ds some_left = ap (λ l. meet (map (column_of text) l) ds) (cut_one own d some_left)
-
-  pub meet_here : (own : List Attribute) (d : Attribute) (ds : List Column) → 1 ≤ length own → meets_in ds (name_of text (get_or own 0 d)) ≡ true → true ≡ meet (map (column_of text) own) ds
-  meet_here own d ds some_left h = sym (meet_front own d ds some_left ∙ ap (λ b. b || meet (map (column_of text) (take (length own - 1) (drop 1 own))) ds) h)
-
-  pub meet_later : (own : List Attribute) (d : Attribute) (ds : List Column) → 1 ≤ length own → meets_in ds (name_of text (get_or own 0 d)) ≡ false →
-      meet (map (column_of text) (take (length own - 1) (drop 1 own))) ds ≡ meet (map (column_of text) own) ds
-  meet_later own d ds some_left h = sym (meet_front own d ds some_left ∙ ap (λ b. b || meet (map (column_of text) (take (length own - 1) (drop 1 own))) ds) h)
-
-  pub meet_ended : (own : List Attribute) (ds : List Column) → length own < 1 → false ≡ meet (map (column_of text) own) ds
-  meet_ended own ds ended = ap (λ l. meet (map (column_of text) l) ds) (sym (nil_from_length own (omega arith)))
+  -- Some attribute of the left meets the right: their columns meet.
+  pub any_meet : (own : List Attribute) (ds : List Column) → list_any (λ a. meets_in ds (name_of text a)) own ≡ meet (map (column_of text) own) ds
+  any_meet [] ds = refl
+  any_meet (a ∷ own) ds = ap (λ b. meets_in ds (name_of text a) || b) (any_meet own ds)
 
   -- The column that an update sets.
   pub column_found : (own : List Attribute) (n : Bytes) (k : ℕ) (d : Attribute) (p : Place) → Some k ≡ position_of (newest_of (λ a. called (name_of text a) n) own) →

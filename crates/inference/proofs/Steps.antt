@@ -4,31 +4,22 @@ use Rattle.std.proofs.lemmas.List.{length-map, map-append}
 use Rattle.domain.specs.declared.Domain.{Domain}
 use Rattle.fault.specs.Limits.{columns}
 use Rattle.fault.specs.declared.rules.Fault.{Fault}
-use Rattle.fault.specs.declared.rules.Rule.TheVariants.{OperandMismatch, TooMany, RepeatedName}
+use Rattle.fault.specs.declared.rules.Rule.TheVariants.{TooMany, RepeatedName}
 use Rattle.words.specs.Tokens.{Bytes, Place}
 use Rattle.schema.specs.Columns.{Column, column_of}
-use Rattle.schema.specs.Kinds.{ValueType.atom, ValueType.table}
 use Rattle.schema.specs.Building.{with_one, with_all}
 use Rattle.schema.specs.declared.attributes.Attribute.{Attribute}
 use Rattle.typing.specs.Environments.{fault}
 use Rattle.typing.specs.Tables.{has, meet, column_named}
-use Rattle.typing.specs.Checker.{Answer, ask, columns_of, together, with_column}
+use Rattle.typing.specs.Checker.{Answer, ask, together, with_column}
 
-pub ask_yes : {A : Type 0} (b : Bool) (f : Fault) (then : Answer A) → b ≡ true → then ≡ ask b f then
+ask_yes : {A : Type 0} (b : Bool) (f : Fault) (then : Answer A) → b ≡ true → then ≡ ask b f then
 unfolding ask
 ask_yes b f then h = rw h refl
 
-pub ask_no : {A : Type 0} (b : Bool) (f : Fault) (then : Answer A) → b ≡ false → Err f ≡ ask b f then
+ask_no : {A : Type 0} (b : Bool) (f : Fault) (then : Answer A) → b ≡ false → Err f ≡ ask b f then
 unfolding ask
 ask_no b f then h = rw h refl
-
-pub no_columns : (d : Domain) (p : Place) → Err (fault OperandMismatch p) ≡ columns_of (atom d) p
-unfolding columns_of
-no_columns d p = refl
-
-pub some_columns : (cs : List Column) (p : Place) → Ok cs ≡ columns_of (table cs) p
-unfolding columns_of
-some_columns cs p = refl
 
 module _ (text : List ℕ) (before : List Attribute) where
   cs : List Column
@@ -69,7 +60,7 @@ module _ (text : List ℕ) (before : List Attribute) where
       ∙ ask_yes _ _ _ (ap not (sym m)) ∙ ask_yes _ _ _ (join_fits more all h).0
 
   -- One column more.
-  grown_fits : (a : Attribute) (all : List Attribute) → Some all ≡ with_one before a → (ltb (length (map (column_of text) before)) columns ≡ true) × (all ≡ before ++ (a ∷ []))
+  grown_fits : (a : Attribute) (all : List Attribute) → Some all ≡ with_one columns before a → (ltb (length (map (column_of text) before)) columns ≡ true) × (all ≡ before ++ (a ∷ []))
   grown_fits a all h =
       let q = by (ltb (length before) columns) h in
       (ap (λ n. ltb n columns) (length-map before (column_of text)) ∙ q.0, q.1)
@@ -81,7 +72,7 @@ module _ (text : List ℕ) (before : List Attribute) where
       by true h = (refl, some_in h)
       by false h = let z : ◌≡◌ {A = ℕ} 0 1 = cc in absurd (omega arith)
 
-  pub column_crowded : (a : Attribute) (n : Bytes) (d : Domain) (p q : Place) → None ≡ with_one before a → Err (fault TooMany p) ≡ with_column (map (column_of text) before) n d p q
+  pub column_crowded : (a : Attribute) (n : Bytes) (d : Domain) (p q : Place) → None ≡ with_one columns before a → Err (fault TooMany p) ≡ with_column (map (column_of text) before) n d p q
   unfolding with_column
   column_crowded a n d p q h = ask_no _ _ _ (ap (λ n. ltb n columns) (length-map before (column_of text)) ∙ by (ltb (length before) columns) h)
     where
@@ -89,12 +80,12 @@ module _ (text : List ℕ) (before : List Attribute) where
       by true h = let z : ◌≡◌ {A = ℕ} 0 1 = cc in absurd (omega arith)
       by false h = refl
 
-  pub column_old : (a : Attribute) (all : List Attribute) (n : Bytes) (d : Domain) (p q : Place) → Some all ≡ with_one before a → true ≡ has (map (column_of text) before) n →
+  pub column_old : (a : Attribute) (all : List Attribute) (n : Bytes) (d : Domain) (p q : Place) → Some all ≡ with_one columns before a → true ≡ has (map (column_of text) before) n →
       Err (fault RepeatedName q) ≡ with_column (map (column_of text) before) n d p q
   unfolding with_column
   column_old a all n d p q h old = ask_no _ _ _ (ap not (sym old)) ∙ ask_yes _ _ _ (grown_fits a all h).0
 
-  pub column_new : (a : Attribute) (all : List Attribute) (n : Bytes) (d : Domain) (p q : Place) → Some all ≡ with_one before a → false ≡ has (map (column_of text) before) n → column_of text a ≡ column_named n d →
+  pub column_new : (a : Attribute) (all : List Attribute) (n : Bytes) (d : Domain) (p q : Place) → Some all ≡ with_one columns before a → false ≡ has (map (column_of text) before) n → column_of text a ≡ column_named n d →
       Ok (map (column_of text) all) ≡ with_column (map (column_of text) before) n d p q
   unfolding with_column
   column_new a all n d p q h new e =

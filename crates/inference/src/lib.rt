@@ -4,8 +4,6 @@
 
 pub mod columns;
 pub mod kinds;
-pub mod spots;
 
 pub use columns::{column_domain, extend, has, join};
 pub use kinds::{as_atom, as_atoms, columns_of, compare, is_atom};
-pub use spots::Spot;

@@ -1,14 +1,19 @@
 -- What each call does to a ledger, as plain facts of widths and lines, against the meaning.
-use Rattle.std.proofs.Common.{◌≡◌, ℕ, suc, ◌+◌, ◌-◌, ◌*◌, ◌<◌, ◌≤◌, Bool, true, List, [], ◌∷◌, ◌++◌, length, get_or, take, drop, set, ℤ, pos, Ok, sym, refl, ap, ◌∙◌, subst, ap₂, ⊎_elim, zero-mul, arith}
+use Rattle.std.proofs.Common.{◌≡◌, ℕ, suc, ◌+◌, ◌-◌, ◌*◌, ◌<◌, ◌≤◌, Bool, true, List, [], ◌∷◌, ◌++◌, length, get_or, take, drop, set, ℤ, pos, ◌⊎◌, Result, Ok, Err, sym, refl, ap, ◌∙◌, subst, ap₂, ⊎_elim, zero-mul, arith}
 use Rattle.std.proofs.lemmas.Bool.{cases_eq}
-use Rattle.std.proofs.lemmas.List.{same_lists, length-append, length-set, length-take-le, get_or-set_same, get_or-set_other, get_or-take, get_or_at, get_or-map, length-map, take_at, append-nil, map-append}
-use Rattle.store.specs.Meaning.{Row, Table, Store, no_table, size, used, table_count, last_place, last_table, with_tables, opened, dropped, settled, row_for, repeats, has, cell_reply}
+use Rattle.std.proofs.lemmas.List.{same_lists, length-append, length-set, length-take-le, get_or-set_same, get_or-set_other, get_or-take, get_or_at, get_or-map, length-map, take_at, append-nil, map-append, get_or_read}
+use Rattle.fault.specs.declared.rules.Fault.{Fault}
+use Rattle.fault.specs.declared.rules.Rule.TheVariants.{TooManyTables, WidthOutside}
+use Rattle.fault.specs.Limits.{columns, tables}
+use Rattle.directory.specs.Tables.{Found, Opened}
+use Rattle.ledger.proofs.Passes.{has_any}
+use Rattle.store.specs.Meaning.{Row, Table, Store, no_table, size, used, table_count, last_place, last_table, with_tables, opened, dropped, settled, row_for, repeats, has, width_reply, cell_reply, refused_by, open_reply, open_after}
 use Rattle.store.specs.Sound.{Sound}
-use Rattle.store.proofs.Cases.{grown, cell_told}
+use Rattle.store.proofs.Cases.{grown, width_absent, width_told, cell_told, open_many, open_outside, open_accepted}
 use Rattle.store.proofs.Cells.{used_append, used_set, size_grown}
-use Rattle.ledger.specs.Lines.{lines_of, rows_of, numbered, tables_of, written, below, without, renumbered}
+use Rattle.ledger.specs.Lines.{lines_of, rows_of, numbered, tables_of, written, below, without, renumbered, has_line}
 use Rattle.ledger.specs.declared.line.Line.{Line}
-use Rattle.ledger.proofs.Numbering.{table_of, table_is, length_numbered, numbered_append, numbered_same, lines_append, lines_own, lines_other, lines_none, lines_without, lines_renumbered, rows_moved}
+use Rattle.ledger.proofs.Numbering.{table_of, table_is, length_numbered, numbered_append, numbered_same, lines_append, lines_own, lines_other, lines_none, lines_without, lines_renumbered, rows_moved, below_open}
 use Rattle.ledger.proofs.Counting.{size_is, used_cut}
 
 -- soundness goes along an equation
@@ -19,18 +24,15 @@ sound_as old new e s = subst Sound (sym e) s
 pub whole_slice : {X : Type 0} (v : ℕ) (new old : List X) → length new ≡ v → take v (new ++ drop (length new) old) ≡ new
 whole_slice v new old l = take_at new (drop (length new) old) v l
 
--- and cut after its first r elements
-pub cut_slice : {X : Type 0} (v r : ℕ) (new old now : List X) → length new ≡ v → now ≡ take r (take v (new ++ drop (length new) old)) → now ≡ take r new
-cut_slice v r new old now l e = e ∙ ap (take r) (whole_slice v new old l)
-
--- the lines that are left when one table's are removed, as the code has them
-pub removed : (ls slice new ms : List Line) (t r v : ℕ) → slice ≡ ls → take r new ≡ without t slice → length new ≡ length slice → v ≡ length ls → ms ≡ take r (take v (new ++ drop (length new) ls)) → ms ≡ without t ls
-removed ls slice new ms t r v slice_is kept long v_is ms_is =
-    cut_slice v r new ls ms (long ∙ ap length slice_is ∙ sym v_is) ms_is ∙ kept ∙ ap (without t) slice_is
-
--- and when another table's are then renumbered
+-- the lines when a table's are renumbered, as the code has them
 pub handed_on : (ls slice new : List Line) (from to v : ℕ) → slice ≡ ls → new ≡ renumbered from to slice → length new ≡ length slice → v ≡ length ls → take v (new ++ drop (length new) ls) ≡ renumbered from to ls
 handed_on ls slice new from to v slice_is new_is long v_is = whole_slice v new ls (long ∙ ap length slice_is ∙ sym v_is) ∙ new_is ∙ ap (renumbered from to) slice_is
+
+-- The width of a table, as its directory tells it.
+pub width_found : (c : ℕ) (ws : List ℕ) (ls : List Line) (t : ℕ) (r : Result ℕ Fault) → Found ws t r → r ≡ width_reply (written c ws ls) t
+width_found c ws ls t (Ok w) f =
+    ap Ok (get_or_read ws t w f.0 f.1 0 ∙ ap (λ x. x.width) (sym (table_is ws ls t no_table f.0))) ∙ width_told (written c ws ls) t (omega (arith, f.0, length_numbered 0 ws ls))
+width_found c ws ls t (Err x) f = ap Err f.1 ∙ width_absent (written c ws ls) t (omega (arith, f.0, length_numbered 0 ws ls))
 
 -- The cell of a row, by the line that holds it.
 pub cell_is : (c : ℕ) (ws : List ℕ) (ls : List Line) (t r k : ℕ) (l : Line) (x : ℤ) → t < length ws → r < length (lines_of t ls) → k < get_or ws t 0 → l ≡ get_or (lines_of t ls) r l → x ≡ get_or l.cells k (pos 0) → Ok x ≡ cell_reply (written c ws ls) t r k
@@ -52,6 +54,32 @@ module _ (c : ℕ) (ws : List ℕ) (ls : List Line) (w : ℕ) (vs : List ℕ) (o
   pub used_open : used (tables_of vs ls) ≡ used (tables_of ws ls)
   used_open = ap used tables_open ∙ used_append (tables_of ws ls) (record { width = w; rows = [] } ∷ []) ∙ omega (arith, zero-mul w)
 
+-- the same, from what opening a table in the directory comes to
+module _ (c : ℕ) (ws : List ℕ) (ls : List Line) (w : ℕ) (owned : below (length ws) ls ≡ true) where
+  pub opened_done : (r : Result (Unit {0}) Fault) (vs : List ℕ) → Opened ws w w r vs → (r ≡ open_reply (written c ws ls) w) × (written c vs ls ≡ open_after (written c ws ls) w)
+  opened_done (Ok u) vs o =
+      let r = open_accepted (written c ws ls) w (omega (arith, o.0, length_numbered 0 ws ls)) o.1.0 o.1.1.0 in
+      (r.0, open_done c ws ls w vs owned o.1.1.1 ∙ r.1)
+  opened_done (Err x) vs o = ⊎_elim many outside o.1
+    where
+      many : (tables ≤ length ws) × (x ≡ refused_by TooManyTables) → (Err x ≡ open_reply (written c ws ls) w) × (written c vs ls ≡ open_after (written c ws ls) w)
+      many p =
+          let r = open_many (written c ws ls) w (omega (arith, p.0, length_numbered 0 ws ls)) in
+          (ap Err p.1 ∙ r.0, ap (λ x. written c x ls) o.0 ∙ r.1)
+
+      outside : (length ws < tables) × (((w < 1) ⊎ (columns < w)) × (x ≡ refused_by WidthOutside)) → (Err x ≡ open_reply (written c ws ls) w) × (written c vs ls ≡ open_after (written c ws ls) w)
+      outside p =
+          let r = open_outside (written c ws ls) w (omega (arith, p.0, length_numbered 0 ws ls)) p.1.0 in
+          (ap Err p.1.1 ∙ r.0, ap (λ x. written c x ls) o.0 ∙ r.1)
+
+  pub used_opened : (r : Result (Unit {0}) Fault) (vs : List ℕ) → Opened ws w w r vs → used (tables_of vs ls) ≡ used (tables_of ws ls)
+  used_opened (Ok u) vs o = used_open c ws ls w vs owned o.1.1.1
+  used_opened (Err x) vs o = ap (λ x. used (tables_of x ls)) o.0
+
+  pub below_opened : (r : Result (Unit {0}) Fault) (vs : List ℕ) → Opened ws w w r vs → below (length vs) ls ≡ true
+  below_opened (Ok u) vs o = below_open ws vs w ls o.1.1.1 owned
+  below_opened (Err x) vs o = ap (λ x. below (length x) ls) o.0 ∙ owned
+
 -- Add: m is the last table, w its width.
 module _ (c : ℕ) (ws : List ℕ) (ls : List Line) (m w : ℕ) (row : Row) (some : 0 < length ws) (m_is : m ≡ length ws - 1) (w_is : w ≡ get_or ws m 0) where
   last_place_lem : last_place (written c ws ls) ≡ m
@@ -64,10 +92,9 @@ module _ (c : ℕ) (ws : List ℕ) (ls : List Line) (m w : ℕ) (row : Row) (som
   last_wide = ap (λ t. t.width) last_is ∙ sym w_is
 
   -- r is what the search found
-  pub add_found : (slice : List Line) (r : Bool) → w ≤ length row → slice ≡ ls → r ≡ has (rows_of (length (take (w - 0) row)) (lines_of m slice)) (take (w - 0) row) → repeats (written c ws ls) row ≡ r
+  pub add_found : (slice : List Line) (r : Bool) → w ≤ length row → slice ≡ ls → r ≡ has_line m (take w row) slice → repeats (written c ws ls) row ≡ r
   add_found slice r long slice_is r_is =
-      let whole : w - 0 ≡ w = omega arith in
-      ap (λ t. has t.rows (take t.width row)) last_is ∙ ap (λ n. has (rows_of n (lines_of m ls)) (take n row)) (sym w_is) ∙ sym (r_is ∙ ap (λ n. has (rows_of (length (take n row)) (lines_of m slice)) (take n row)) whole ∙ ap₂ (λ n x. has (rows_of n (lines_of m x)) (take w row)) (length-take-le w row long) slice_is)
+      ap (λ t. has t.rows (take t.width row)) last_is ∙ ap (λ n. has (rows_of n (lines_of m ls)) (take n row)) (sym w_is) ∙ sym (r_is ∙ has_any slice (take w row) (length (take w row)) m ∙ ap₂ (λ n x. has (rows_of n (lines_of m x)) (take w row)) (length-take-le w row long) slice_is)
 
   module _ (ms : List Line) (ms_is : ms ≡ ls ++ record { table = m; cells = row } ∷ []) where
     abbrev new : Line

@@ -1,7 +1,11 @@
 -- How many lines and cells a ledger uses.
-use Rattle.std.proofs.Common.{◌≡◌, ℕ, zero, suc, ◌+◌, ◌*◌, ◌<◌, ◌≤◌, Bool, true, false, cond, eqb, ltb, ◌⊎◌, List, [], ◌∷◌, length, get_or, take, sym, ap, ◌∙◌, inl, inr, suc-mul, arith}
+use Rattle.std.proofs.Common.{◌≡◌, ℕ, zero, suc, ◌+◌, ◌*◌, ◌<◌, ◌≤◌, Bool, true, false, cond, eqb, ltb, ◌⊎◌, List, [], ◌∷◌, length, get_or, take, Some, None, Result, Ok, Err, sym, ap, ◌∙◌, inl, inr, ⊎_elim, suc-mul, arith}
 use Rattle.std.proofs.lemmas.List.{length-map}
 use Rattle.std.proofs.lemmas.Bool.{and_parts, ltb-true, cases_order}
+use Rattle.std.specs.List.{slice_get}
+use Rattle.std.specs.Option.{ok_or}
+use Rattle.std.proofs.lemmas.Option.{slice_get_cases}
+use Rattle.fault.specs.declared.rules.Fault.{Fault}
 use Rattle.store.specs.Meaning.{Table, no_table, size, used}
 use Rattle.store.specs.Sound.{sound_tables}
 use Rattle.store.proofs.Cells.{used_take}
@@ -76,3 +80,19 @@ rows_counted ws ls t l =
 
 pub few_lines : (ws : List ℕ) (ls : List Line) (t : ℕ) → below (length ws) ls ≡ true → sound_tables (tables_of ws ls) ≡ true → length (lines_of t ls) ≤ used (tables_of ws ls)
 few_lines ws ls t h s = omega (arith, lines_few t ls, lines_used ws ls h s)
+
+-- a row that is not there
+pub row_missing : (ls : List Line) (r : ℕ) (x f : Fault) → Err x ≡ ok_or (slice_get ls r) f → (length ls ≤ r) × (x ≡ f)
+row_missing ls r x f e = ⊎_elim there gone (slice_get_cases ls r).1
+  where
+    there : (y : Line) × (r < length ls) × (slice_get ls r ≡ Some y) × (get_or ls r y ≡ y) → (length ls ≤ r) × (x ≡ f)
+    there (y, low, found, is) = absurd (clash (e ∙ ap (λ o. ok_or o f) found))
+      where
+        clash : ◌≡◌ {A = Result Line Fault} (Err x) (Ok y) → ⊥
+        clash h = cc
+
+    gone : (length ls ≤ r) × (slice_get ls r ≡ None) → (length ls ≤ r) × (x ≡ f)
+    gone (past, none) = (past, same (e ∙ ap (λ o. ok_or o f) none))
+      where
+        same : ◌≡◌ {A = Result Line Fault} (Err x) (Err f) → x ≡ f
+        same h = cc

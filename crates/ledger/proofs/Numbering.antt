@@ -1,5 +1,5 @@
 -- Which lines belong to which table, and the tables that they make.
-use Rattle.std.proofs.Common.{◌≡◌, ℕ, zero, suc, ◌+◌, ◌<◌, ◌≤◌, Bool, true, false, cond, eqb, ltb, List, [], ◌∷◌, ◌++◌, length, get_or, take, sym, refl, ap, ◌∙◌, ap₂, ⊎_elim, add-zero, arith}
+use Rattle.std.proofs.Common.{◌≡◌, ℕ, zero, suc, ◌+◌, ◌<◌, ◌≤◌, Bool, true, false, not, cond, eqb, ltb, List, [], ◌∷◌, ◌++◌, length, get_or, take, sym, refl, ap, ◌∙◌, ap₂, ⊎_elim, add-zero, arith}
 use Rattle.std.proofs.lemmas.Bool.{and_parts, and_from, eq-eqb, ne_eqb, ltb-true, lt-ltb, cases_eq, cases_order}
 use Rattle.std.proofs.lemmas.List.{length-append}
 use Rattle.fault.specs.Limits.{columns}
@@ -40,8 +40,8 @@ lines_none n t (l ∷ ls) h k =
 without_cons : (t g : ℕ) (l : Line) (ls : List Line) → (t ≡ g → ⊥) → lines_of t (without g ls) ≡ lines_of t ls → lines_of t (without g (l ∷ ls)) ≡ lines_of t (l ∷ ls)
 without_cons t g l ls ne rest =
     ⊎_elim
-    (λ h. ap (λ b. lines_of t (cond b (without g ls) (l ∷ without g ls))) (eq-eqb l.table g h) ∙ rest ∙ sym (lines_other t l ls (λ k. ne (sym k ∙ h))))
-    (λ h. ap (λ b. lines_of t (cond b (without g ls) (l ∷ without g ls))) (ne_eqb l.table g h) ∙ ap (λ x. cond (eqb l.table t) (l ∷ x) x) rest)
+    (λ h. ap (λ b. lines_of t (cond (not b) (l ∷ without g ls) (without g ls))) (eq-eqb l.table g h) ∙ rest ∙ sym (lines_other t l ls (λ k. ne (sym k ∙ h))))
+    (λ h. ap (λ b. lines_of t (cond (not b) (l ∷ without g ls) (without g ls))) (ne_eqb l.table g h) ∙ ap (λ x. cond (eqb l.table t) (l ∷ x) x) rest)
     (cases_eq l.table g)
 
 -- without a table's lines, those of the others are as before
@@ -65,8 +65,8 @@ lines_renumbered t f n (l ∷ ls) nf nn = renumbered_cons t f n l ls nf nn (line
 moved_cons : (f n w : ℕ) (l : Line) (ls : List Line) → (f ≡ n → ⊥) → rows_of w (lines_of n (renumbered f n (without n ls))) ≡ rows_of w (lines_of f ls) → rows_of w (lines_of n (renumbered f n (without n (l ∷ ls)))) ≡ rows_of w (lines_of f (l ∷ ls))
 moved_cons f n w l ls ne rest =
     ⊎_elim
-    (λ h. ap (λ b. rows_of w (lines_of n (renumbered f n (cond b (without n ls) (l ∷ without n ls))))) (eq-eqb l.table n h) ∙ rest ∙ ap (rows_of w) (sym (lines_other f l ls (λ k. ne (sym k ∙ h)))))
-    (λ h. ap (λ b. rows_of w (lines_of n (renumbered f n (cond b (without n ls) (l ∷ without n ls))))) (ne_eqb l.table n h) ∙ kept h)
+    (λ h. ap (λ b. rows_of w (lines_of n (renumbered f n (cond (not b) (l ∷ without n ls) (without n ls))))) (eq-eqb l.table n h) ∙ rest ∙ ap (rows_of w) (sym (lines_other f l ls (λ k. ne (sym k ∙ h)))))
+    (λ h. ap (λ b. rows_of w (lines_of n (renumbered f n (cond (not b) (l ∷ without n ls) (without n ls))))) (ne_eqb l.table n h) ∙ kept h)
     (cases_eq l.table n)
   where
     others : List Line
@@ -108,8 +108,8 @@ below_without n (l ∷ ls) k = cons (and_parts (ltb l.table (suc n)) (below (suc
     cons low rest =
         let here : l.table < suc n = ltb-true l.table (suc n) low in
         ⊎_elim
-        (λ h. ap (λ b. below n (cond b (without n ls) (l ∷ without n ls))) (eq-eqb l.table n h) ∙ rest)
-        (λ h. ap (λ b. below n (cond b (without n ls) (l ∷ without n ls))) (ne_eqb l.table n h) ∙ and_from (ltb l.table n) (below n (without n ls)) (lt-ltb l.table n (less here h)) rest)
+        (λ h. ap (λ b. below n (cond (not b) (l ∷ without n ls) (without n ls))) (eq-eqb l.table n h) ∙ rest)
+        (λ h. ap (λ b. below n (cond (not b) (l ∷ without n ls) (without n ls))) (ne_eqb l.table n h) ∙ and_from (ltb l.table n) (below n (without n ls)) (lt-ltb l.table n (less here h)) rest)
         (cases_eq l.table n)
       where
         less : l.table < suc n → (l.table ≡ n → ⊥) → l.table < n
@@ -122,7 +122,7 @@ below_part n g (l ∷ ls) k =
     let p = and_parts (ltb l.table n) (below n ls) k in
     by (eqb l.table g) p.0 (below_part n g ls p.1)
   where
-    by : (b : Bool) → ltb l.table n ≡ true → below n (without g ls) ≡ true → below n (cond b (without g ls) (l ∷ without g ls)) ≡ true
+    by : (b : Bool) → ltb l.table n ≡ true → below n (without g ls) ≡ true → below n (cond (not b) (l ∷ without g ls) (without g ls)) ≡ true
     by true low rest = rest
     by false low rest = and_from (ltb l.table n) (below n (without g ls)) low rest
 

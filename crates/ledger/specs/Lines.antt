@@ -1,16 +1,20 @@
 -- What a list of widths and a list of numbered lines stand for.
-use Rattle.std.specs.Prelude.{ℕ, ◌+◌, Bool, true, cond, ◌&&◌, List, [], ◌∷◌, map, take, ◌==◌, nat_lt}
-use Rattle.store.specs.Meaning.{Row, Table, Store}
+use Rattle.std.specs.Prelude.{ℕ, ◌+◌, Bool, true, not, cond, ◌&&◌, List, [], ◌∷◌, map, length, take, ◌==◌, nat_lt}
+use Rattle.std.specs.List.{filter, list_any}
+use Rattle.store.specs.Meaning.{Row, Table, Store, same_row}
 use Rattle.ledger.specs.declared.line.Line.{Line}
 
 -- the lines of a table
 abbrev pub lines_of : ℕ → List Line → List Line
-lines_of t [] = []
-lines_of t (l ∷ ls) = cond (l.table == t) (l ∷ lines_of t ls) (lines_of t ls)
+lines_of t ls = filter (λ l. l.table == t) ls
 
 -- their rows, at this width
 abbrev pub rows_of : ℕ → List Line → List Row
 rows_of w ls = map (λ l. take w l.cells) ls
+
+-- whether one of the table's lines begins with the row
+abbrev pub has_line : ℕ → Row → List Line → Bool
+has_line t row ls = list_any (λ l. (l.table == t) && same_row (take (length row) l.cells) row) ls
 
 -- the tables of these widths, the first of them with number t
 abbrev pub numbered : ℕ → List ℕ → List Line → List Table
@@ -30,10 +34,8 @@ below n (l ∷ ls) = nat_lt l.table n && below n ls
 
 -- the lines of all other tables
 abbrev pub without : ℕ → List Line → List Line
-without t [] = []
-without t (l ∷ ls) = cond (l.table == t) (without t ls) (l ∷ without t ls)
+without t ls = filter (λ l. not (l.table == t)) ls
 
 -- the lines of one table given to another
 abbrev pub renumbered : ℕ → ℕ → List Line → List Line
-renumbered from to [] = []
-renumbered from to (l ∷ ls) = cond (l.table == from) (record { table = to; cells = l.cells }) l ∷ renumbered from to ls
+renumbered from to ls = map (λ l. cond (l.table == from) (record { table = to; cells = l.cells }) l) ls

@@ -1,6 +1,6 @@
 // The ledger's fields, what always holds of them, and the calls.
 ghost use Rattle.std.specs.Prelude.{◌≡◌, ◌≤◌, min, true, [], length, IfOk, vec_capacity};
-ghost use Rattle.fault.specs.Limits.{cells as cell_limit, tables as table_limit};
+ghost use Rattle.fault.specs.Limits.{cells as cell_limit};
 ghost use Rattle.store.specs.Meaning.{used as used_by};
 ghost use Rattle.store.specs.Sound.{sound_tables};
 ghost use Rattle.ledger.specs.Lines.{tables_of, written, below};
@@ -8,7 +8,8 @@ ghost use Rattle.ledger.specs.WrittenSound.{written_sound};
 
 use crate::book::{count_rows, find_row, has_row, remove, renumber};
 use crate::line::Line;
-use fault::limits::{CELLS, COLUMNS, TABLES};
+use directory::Directory;
+use fault::limits::{CELLS, COLUMNS};
 use fault::{Fault, Rule};
 use std::alloc::{AllocError, Global};
 use store::{RowStore, refuse};
@@ -17,28 +18,26 @@ use store::{RowStore, refuse};
 pub struct Ledger {
     capacity: u16,
     used: u16,
-    widths: Vec<u16>,
+    widths: Directory<u16>,
     lines: Vec<Line>,
     // what the ledger stands for is sound
-    ghost sound: { sound_tables (tables_of widths.items lines.items) ≡ true },
-    ghost counted: { used ≡ used_by (tables_of widths.items lines.items) },
+    ghost sound: { sound_tables (tables_of widths.entries.items lines.items) ≡ true },
+    ghost counted: { used ≡ used_by (tables_of widths.entries.items lines.items) },
     ghost within: { used ≤ capacity },
     ghost small: { capacity ≤ cell_limit },
-    ghost few: { length widths.items ≤ table_limit },
     // every line belongs to a table
-    ghost owned: { below (length widths.items) lines.items ≡ true },
+    ghost owned: { below (length widths.entries.items) lines.items ≡ true },
     // what was reserved when the store was made suffices for ever
     ghost room: { capacity ≤ vec_capacity lines },
-    ghost places: { table_limit ≤ vec_capacity widths },
 }
 
 impl Ledger {
     // A store without tables, over `size` cells or as many as a store may have. Nothing else allocates.
     pub fn new(heap: Global, size: usize) -> Result<Ledger, AllocError>
-        ensures { IfOk result (λ p. written p.capacity p.widths.items p.lines.items ≡ record { capacity = min size cell_limit; tables = [] }) }
+        ensures { IfOk result (λ p. written p.capacity p.widths.entries.items p.lines.items ≡ record { capacity = min size cell_limit; tables = [] }) }
     {
-        let capacity = if size < CELLS { size } else { CELLS };
-        let widths = Vec::with_capacity(heap, TABLES)?;
+        let capacity = size.min(CELLS);
+        let widths = Directory::new(heap)?;
         let lines = Vec::with_capacity(heap, capacity)?;
         Ok(Ledger {
             capacity: capacity as u16,
@@ -50,9 +49,9 @@ impl Ledger {
 }
 
 impl RowStore for Ledger {
-    ghost meaning = { λ p. written p.capacity p.widths.items p.lines.items };
+    ghost meaning = { λ p. written p.capacity p.widths.entries.items p.lines.items };
 
-    ghost sound = { λ p. written_sound p.capacity p.used p.widths.items p.lines.items p.sound p.counted p.within p.small p.few };
+    ghost sound = { λ p. written_sound p.capacity p.used p.widths.entries.items p.lines.items p.sound p.counted p.within p.small p.widths.few };
 
     fn capacity(&self) -> u16 {
         self.capacity
@@ -63,60 +62,36 @@ impl RowStore for Ledger {
     }
 
     fn table_count(&self) -> u16 {
-        self.widths.len() as u16
+        self.widths.table_count()
     }
 
     fn width(&self, table: u16) -> Result<u16, Fault> {
-        let place = table as usize;
-        if place >= self.widths.len() {
-            return Err(refuse(Rule::NoSuchPlace));
-        }
-        Ok(self.widths[place])
+        self.widths.entry(table)
     }
 
     fn row_count(&self, table: u16) -> Result<u16, Fault> {
-        let place = table as usize;
-        if place >= self.widths.len() {
-            return Err(refuse(Rule::NoSuchPlace));
-        }
+        let _ = self.widths.entry(table)?;
         Ok(count_rows(&self.lines, table) as u16)
     }
 
     fn cell(&self, table: u16, row: u16, column: u16) -> Result<i64, Fault> {
-        let place = table as usize;
-        if place >= self.widths.len() {
+        let width = self.widths.entry(table)?;
+        let line = find_row(&self.lines, table, row as usize);
+        let line = line.ok_or(refuse(Rule::NoSuchPlace))?;
+        if column >= width {
             return Err(refuse(Rule::NoSuchPlace));
         }
-        let width = self.widths[place];
-        let count = count_rows(&self.lines, table);
-        let number = row as usize;
-        if number >= count || column >= width {
-            return Err(refuse(Rule::NoSuchPlace));
-        }
-        let at = find_row(&self.lines, table, number);
-        Ok(self.lines[at].cells[column as usize])
+        Ok(line.cells[column as usize])
     }
 
     fn open(&mut self, width: u16) -> Result<(), Fault> {
-        if self.widths.len() >= TABLES {
-            return Err(refuse(Rule::TooManyTables));
-        }
-        let wide = width as usize;
-        if wide < 1 || wide > COLUMNS {
-            return Err(refuse(Rule::WidthOutside));
-        }
-        self.widths.push_reserved(width);
-        Ok(())
+        self.widths.open(width, width)
     }
 
     fn add(&mut self, row: &[i64; COLUMNS]) -> Result<(), Fault> {
-        let count = self.widths.len();
-        if count == 0 {
-            return Err(refuse(Rule::NoSuchPlace));
-        }
-        let width = self.widths[count - 1];
-        let table = (count - 1) as u16;
-        if has_row(&self.lines, table, &row[0..width as usize]) {
+        let width = self.widths.last()?;
+        let table = self.widths.table_count() - 1;
+        if has_row(&self.lines, table, &row[..width as usize]) {
             return Ok(());
         }
         if width > self.capacity - self.used {
@@ -128,32 +103,20 @@ impl RowStore for Ledger {
     }
 
     fn drop_last(&mut self) -> Result<(), Fault> {
-        let Some(width) = self.widths.pop() else {
-            return Err(refuse(Rule::NoSuchPlace));
-        };
-        let table = self.widths.len() as u16;
-        let rows = count_rows(&self.lines, table) as u16;
-        let kept = remove(self.lines.as_mut_slice(), table);
-        self.lines.truncate(kept);
-        self.used -= rows * width;
+        let width = self.widths.pop()?;
+        let table = self.widths.table_count();
+        self.used -= count_rows(&self.lines, table) as u16 * width;
+        remove(&mut self.lines, table);
         Ok(())
     }
 
     fn settle(&mut self, table: u16) -> Result<(), Fault> {
-        let place = table as usize;
-        let count = self.widths.len();
-        if place + 1 >= count {
-            return Err(refuse(Rule::NoSuchPlace));
-        }
-        let old = self.widths[place];
-        let last = self.widths[count - 1];
-        let rows = count_rows(&self.lines, table) as u16;
-        let kept = remove(self.lines.as_mut_slice(), table);
-        self.lines.truncate(kept);
-        renumber(self.lines.as_mut_slice(), (count - 1) as u16, table);
-        self.widths.truncate(count - 1);
-        self.widths[place] = last;
-        self.used -= rows * old;
+        let old = self.widths.settle(table)?;
+        self.used -= count_rows(&self.lines, table) as u16 * old;
+        remove(&mut self.lines, table);
+        // the last table had the number that comes after those that are left
+        let last = self.widths.table_count();
+        renumber(self.lines.as_mut_slice(), last, table);
         Ok(())
     }
 }

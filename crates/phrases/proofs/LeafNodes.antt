@@ -1,5 +1,5 @@
 -- A token that is a node by itself: the reader finds it, and the node holds it.
-use Rattle.std.proofs.Common.{◌≡◌, ℕ, suc, ◌+◌, ◌≤◌, Bool, cond, leb, List, length, take, drop, pos, Some, None, Option, sym, refl, ap, ◌∙◌, subst, arith}
+use Rattle.std.proofs.Common.{◌≡◌, ℕ, suc, ◌+◌, ◌≤◌, Bool, cond, leb, List, [], length, take, drop, pos, Some, None, Option, sym, refl, ap, ◌∙◌, subst, arith}
 use Rattle.std.proofs.lemmas.Bool.{le-leb}
 use Rattle.domain.specs.declared.Domain.{Domain}
 use Rattle.fault.specs.Limits.{script_bytes, name_bytes, string_bytes, integer_max}
@@ -33,157 +33,89 @@ span_part text x start limit g few s =
     (subst (λ n. cond (leb (start + n) (length text)) (Some (take n (drop start text))) None ≡ Some x) (sym j)
     (ap (λ b. cond b (Some (take (length x) (drop start text))) None) (le-leb (start + length x) (length text) s.inside) ∙ ap Some s.bytes))
 
-says_is : (ns : List Node) (i : ℕ) (w v : What) (p : Place) → Some w ≡ Some v → Says ns i w p → Says ns i v p
-says_is ns i w v p e h = let z : w ≡ v = cc in subst (λ j. Says ns i j p) z h
-
-name_held : (text : Bytes) (ns : List Node) (i : ℕ) (x : Bytes) (p : Place) (w : What) → length text ≤ script_bytes → Spells text p.byte name_bytes x → Some w ≡ Some (what.Name (span_of p.byte x)) →
-    Says ns i w p → (node_at ns i).next ≡ None → Held (leaf_level name_leaf) text ns i (suc i) i (name_part (named x p))
+name_held : (text : Bytes) (ns : List Node) (i : ℕ) (x : Bytes) (p : Place) → length text ≤ script_bytes → Spells text p.byte name_bytes x →
+    Says ns i (what.Name (span_of p.byte x)) p → (node_at ns i).next ≡ None → Held (leaf_level name_leaf) text ns i (suc i) i (name_part (named x p))
 unfolding Held
-name_held text ns i x p w g t e h n = (i, refl, ((refl, span_of p.byte x, says_is ns i w _ p e h, span_part text x p.byte name_bytes g (omega arith) t), refl, n))
+name_held text ns i x p g t h n = (i, refl, ((refl, span_of p.byte x, h, span_part text x p.byte name_bytes g (omega arith) t), refl, n))
 
-type_held : (text : Bytes) (ns : List Node) (i : ℕ) (d : Domain) (p : Place) (w : What) → Some w ≡ Some (what.AtomicType d) →
-    Says ns i w p → (node_at ns i).next ≡ None → Held (leaf_level type_leaf) text ns i (suc i) i (type_part (typed d p))
+type_held : (text : Bytes) (ns : List Node) (i : ℕ) (d : Domain) (p : Place) → Says ns i (what.AtomicType d) p → (node_at ns i).next ≡ None → Held (leaf_level type_leaf) text ns i (suc i) i (type_part (typed d p))
 unfolding Held
-type_held text ns i d p w e h n = ((i, refl, ((refl, says_is ns i w _ p e h), refl, n)), refl)
+type_held text ns i d p h n = ((i, refl, ((refl, h), refl, n)), refl)
 
-integer_held : (text : Bytes) (ns : List Node) (i : ℕ) (x : Bytes) (p : Place) (w : What) → value_of x ≤ integer_max → Some w ≡ Some (what.Integer (integer_of x)) →
-    Says ns i w p → (node_at ns i).next ≡ None → Held (leaf_level constant_leaf) text ns i (suc i) i (constant_part (integer_constant (pos (value_of x)) p))
+integer_held : (text : Bytes) (ns : List Node) (i : ℕ) (x : Bytes) (p : Place) → value_of x ≤ integer_max → Says ns i (what.Integer (integer_of x)) p → (node_at ns i).next ≡ None →
+    Held (leaf_level constant_leaf) text ns i (suc i) i (constant_part (integer_constant (pos (value_of x)) p))
 unfolding Held
-integer_held text ns i x p w t e h n =
-    (i, refl, ((refl, subst (λ v. Says ns i (what.Integer (pos v)) p) (within_is integer_max (value_of x) t) (says_is ns i w _ p e h)), refl, n))
+integer_held text ns i x p t h n = (i, refl, ((refl, subst (λ v. Says ns i (what.Integer (pos v)) p) (within_is integer_max (value_of x) t) h), refl, n))
 
-string_held : (text : Bytes) (ns : List Node) (i : ℕ) (x : Bytes) (p : Place) (w : What) → length text ≤ script_bytes → Spells text (p.byte + 1) string_bytes x → Some w ≡ Some (what.Text (span_of (p.byte + 1) x)) →
-    Says ns i w p → (node_at ns i).next ≡ None → Held (leaf_level constant_leaf) text ns i (suc i) i (constant_part (string_constant x p))
+string_held : (text : Bytes) (ns : List Node) (i : ℕ) (x : Bytes) (p : Place) → length text ≤ script_bytes → Spells text (p.byte + 1) string_bytes x →
+    Says ns i (what.Text (span_of (p.byte + 1) x)) p → (node_at ns i).next ≡ None → Held (leaf_level constant_leaf) text ns i (suc i) i (constant_part (string_constant x p))
 unfolding Held
-string_held text ns i x p w g t e h n = (i, refl, ((refl, span_of (p.byte + 1) x, says_is ns i w _ p e h, span_part text x (p.byte + 1) string_bytes g (omega arith) t), refl, n))
+string_held text ns i x p g t h n = (i, refl, ((refl, span_of (p.byte + 1) x, h, span_part text x (p.byte + 1) string_bytes g (omega arith) t), refl, n))
 
-truth_held : (text : Bytes) (ns : List Node) (i : ℕ) (b : Bool) (p : Place) (w : What) → Some w ≡ Some (what.Truth b) →
-    Says ns i w p → (node_at ns i).next ≡ None → Held (leaf_level constant_leaf) text ns i (suc i) i (constant_part (truth_constant b p))
+truth_held : (text : Bytes) (ns : List Node) (i : ℕ) (b : Bool) (p : Place) → Says ns i (what.Truth b) p → (node_at ns i).next ≡ None → Held (leaf_level constant_leaf) text ns i (suc i) i (constant_part (truth_constant b p))
 unfolding Held
-truth_held text ns i b p w e h n = (i, refl, ((refl, says_is ns i w _ p e h), refl, n))
+truth_held text ns i b p h n = (i, refl, ((refl, h), refl, n))
+
+-- what follows from the node that a token is: without one it is refused; else it pays for it, is read, and the node holds it
+abbrev LeafBy : Bytes → Leaf → Option Terminal → Place → List Token → Option What → Type 0
+LeafBy text l k p s None = read_leaf l (before k p s) ≡ refused_at cannot_follow (before k p s)
+LeafBy text l k p s (Some w) =
+    (leaf_pays l ≤ pays_ahead k) ×
+    (length text ≤ script_bytes → TellsAhead text k p →
+    (u : Part) × (read_leaf l (before k p s) ≡ found u s) × ((ns : List Node) (i : ℕ) → Says ns i w p → (node_at ns i).next ≡ None → Held (leaf_level l) text ns i (suc i) i u))
+
+leaf_by : (text : Bytes) (l : Leaf) (k : Option Terminal) (p : Place) (s : List Token) → LeafBy text l k p s (leaf_node l k p.byte)
+unfolding read_leaf
+leaf_by text l None p s = refl
+leaf_by text name_leaf (Some (word v)) p s = refl
+leaf_by text name_leaf (Some (sign v)) p s = refl
+leaf_by text name_leaf (Some (domain d)) p s = refl
+leaf_by text name_leaf (Some (logic v)) p s = refl
+leaf_by text name_leaf (Some (comparison v)) p s = refl
+leaf_by text name_leaf (Some (sum v)) p s = refl
+leaf_by text name_leaf (Some (product v)) p s = refl
+leaf_by text name_leaf (Some (truth b)) p s = refl
+leaf_by text name_leaf (Some (integer x)) p s = refl
+leaf_by text name_leaf (Some (string x)) p s = refl
+leaf_by text name_leaf (Some (name x)) p s = (omega arith, λ g t. (name_part (named x p), refl, λ ns i h n. name_held text ns i x p g t h n))
+leaf_by text name_leaf (Some (broken v)) p s = refl
+leaf_by text type_leaf (Some (word v)) p s = refl
+leaf_by text type_leaf (Some (sign v)) p s = refl
+leaf_by text type_leaf (Some (domain d)) p s = (omega arith, λ g t. (type_part (typed d p), refl, λ ns i h n. type_held text ns i d p h n))
+leaf_by text type_leaf (Some (logic v)) p s = refl
+leaf_by text type_leaf (Some (comparison v)) p s = refl
+leaf_by text type_leaf (Some (sum v)) p s = refl
+leaf_by text type_leaf (Some (product v)) p s = refl
+leaf_by text type_leaf (Some (truth b)) p s = refl
+leaf_by text type_leaf (Some (integer x)) p s = refl
+leaf_by text type_leaf (Some (string x)) p s = refl
+leaf_by text type_leaf (Some (name x)) p s = refl
+leaf_by text type_leaf (Some (broken v)) p s = refl
+leaf_by text constant_leaf (Some (word v)) p s = refl
+leaf_by text constant_leaf (Some (sign v)) p s = refl
+leaf_by text constant_leaf (Some (domain d)) p s = refl
+leaf_by text constant_leaf (Some (logic v)) p s = refl
+leaf_by text constant_leaf (Some (comparison v)) p s = refl
+leaf_by text constant_leaf (Some (sum v)) p s = refl
+leaf_by text constant_leaf (Some (product v)) p s = refl
+leaf_by text constant_leaf (Some (truth b)) p s = (omega arith, λ g t. (constant_part (truth_constant b p), refl, λ ns i h n. truth_held text ns i b p h n))
+leaf_by text constant_leaf (Some (integer x)) p s = (omega arith, λ g t. (constant_part (integer_constant (pos (value_of x)) p), refl, λ ns i h n. integer_held text ns i x p t h n))
+leaf_by text constant_leaf (Some (string x)) p s = (omega arith, λ g t. (constant_part (string_constant x p), refl, λ ns i h n. string_held text ns i x p g t h n))
+leaf_by text constant_leaf (Some (name x)) p s = refl
+leaf_by text constant_leaf (Some (broken v)) p s = refl
 
 -- what the token's node holds
 pub leaf_found : (text : Bytes) (l : Leaf) (k : Option Terminal) (p : Place) (s : List Token) (w : What) → length text ≤ script_bytes → TellsAhead text k p → Some w ≡ leaf_node l k p.byte →
     (u : Part) × (read_leaf l (before k p s) ≡ found u s) × ((ns : List Node) (i : ℕ) → Says ns i w p → (node_at ns i).next ≡ None → Held (leaf_level l) text ns i (suc i) i u)
-unfolding read_leaf
-leaf_found text l None p s w g t e = absurd (let z : ◌≡◌ {A = ℕ} 0 1 = cc in omega arith)
-leaf_found text name_leaf (Some (word v)) p s w g t e = absurd (let z : ◌≡◌ {A = ℕ} 0 1 = cc in omega arith)
-leaf_found text name_leaf (Some (sign v)) p s w g t e = absurd (let z : ◌≡◌ {A = ℕ} 0 1 = cc in omega arith)
-leaf_found text name_leaf (Some (domain d)) p s w g t e = absurd (let z : ◌≡◌ {A = ℕ} 0 1 = cc in omega arith)
-leaf_found text name_leaf (Some (logic v)) p s w g t e = absurd (let z : ◌≡◌ {A = ℕ} 0 1 = cc in omega arith)
-leaf_found text name_leaf (Some (comparison v)) p s w g t e = absurd (let z : ◌≡◌ {A = ℕ} 0 1 = cc in omega arith)
-leaf_found text name_leaf (Some (sum v)) p s w g t e = absurd (let z : ◌≡◌ {A = ℕ} 0 1 = cc in omega arith)
-leaf_found text name_leaf (Some (product v)) p s w g t e = absurd (let z : ◌≡◌ {A = ℕ} 0 1 = cc in omega arith)
-leaf_found text name_leaf (Some (truth b)) p s w g t e = absurd (let z : ◌≡◌ {A = ℕ} 0 1 = cc in omega arith)
-leaf_found text name_leaf (Some (integer x)) p s w g t e = absurd (let z : ◌≡◌ {A = ℕ} 0 1 = cc in omega arith)
-leaf_found text name_leaf (Some (string x)) p s w g t e = absurd (let z : ◌≡◌ {A = ℕ} 0 1 = cc in omega arith)
-leaf_found text name_leaf (Some (name x)) p s w g t e = (name_part (named x p), refl, λ ns i h n. name_held text ns i x p w g t e h n)
-leaf_found text name_leaf (Some (broken v)) p s w g t e = absurd (let z : ◌≡◌ {A = ℕ} 0 1 = cc in omega arith)
-leaf_found text type_leaf (Some (word v)) p s w g t e = absurd (let z : ◌≡◌ {A = ℕ} 0 1 = cc in omega arith)
-leaf_found text type_leaf (Some (sign v)) p s w g t e = absurd (let z : ◌≡◌ {A = ℕ} 0 1 = cc in omega arith)
-leaf_found text type_leaf (Some (domain d)) p s w g t e = (type_part (typed d p), refl, λ ns i h n. type_held text ns i d p w e h n)
-leaf_found text type_leaf (Some (logic v)) p s w g t e = absurd (let z : ◌≡◌ {A = ℕ} 0 1 = cc in omega arith)
-leaf_found text type_leaf (Some (comparison v)) p s w g t e = absurd (let z : ◌≡◌ {A = ℕ} 0 1 = cc in omega arith)
-leaf_found text type_leaf (Some (sum v)) p s w g t e = absurd (let z : ◌≡◌ {A = ℕ} 0 1 = cc in omega arith)
-leaf_found text type_leaf (Some (product v)) p s w g t e = absurd (let z : ◌≡◌ {A = ℕ} 0 1 = cc in omega arith)
-leaf_found text type_leaf (Some (truth b)) p s w g t e = absurd (let z : ◌≡◌ {A = ℕ} 0 1 = cc in omega arith)
-leaf_found text type_leaf (Some (integer x)) p s w g t e = absurd (let z : ◌≡◌ {A = ℕ} 0 1 = cc in omega arith)
-leaf_found text type_leaf (Some (string x)) p s w g t e = absurd (let z : ◌≡◌ {A = ℕ} 0 1 = cc in omega arith)
-leaf_found text type_leaf (Some (name x)) p s w g t e = absurd (let z : ◌≡◌ {A = ℕ} 0 1 = cc in omega arith)
-leaf_found text type_leaf (Some (broken v)) p s w g t e = absurd (let z : ◌≡◌ {A = ℕ} 0 1 = cc in omega arith)
-leaf_found text constant_leaf (Some (word v)) p s w g t e = absurd (let z : ◌≡◌ {A = ℕ} 0 1 = cc in omega arith)
-leaf_found text constant_leaf (Some (sign v)) p s w g t e = absurd (let z : ◌≡◌ {A = ℕ} 0 1 = cc in omega arith)
-leaf_found text constant_leaf (Some (domain d)) p s w g t e = absurd (let z : ◌≡◌ {A = ℕ} 0 1 = cc in omega arith)
-leaf_found text constant_leaf (Some (logic v)) p s w g t e = absurd (let z : ◌≡◌ {A = ℕ} 0 1 = cc in omega arith)
-leaf_found text constant_leaf (Some (comparison v)) p s w g t e = absurd (let z : ◌≡◌ {A = ℕ} 0 1 = cc in omega arith)
-leaf_found text constant_leaf (Some (sum v)) p s w g t e = absurd (let z : ◌≡◌ {A = ℕ} 0 1 = cc in omega arith)
-leaf_found text constant_leaf (Some (product v)) p s w g t e = absurd (let z : ◌≡◌ {A = ℕ} 0 1 = cc in omega arith)
-leaf_found text constant_leaf (Some (truth b)) p s w g t e = (constant_part (truth_constant b p), refl, λ ns i h n. truth_held text ns i b p w e h n)
-leaf_found text constant_leaf (Some (integer x)) p s w g t e = (constant_part (integer_constant (pos (value_of x)) p), refl, λ ns i h n. integer_held text ns i x p w t e h n)
-leaf_found text constant_leaf (Some (string x)) p s w g t e = (constant_part (string_constant x p), refl, λ ns i h n. string_held text ns i x p w g t e h n)
-leaf_found text constant_leaf (Some (name x)) p s w g t e = absurd (let z : ◌≡◌ {A = ℕ} 0 1 = cc in omega arith)
-leaf_found text constant_leaf (Some (broken v)) p s w g t e = absurd (let z : ◌≡◌ {A = ℕ} 0 1 = cc in omega arith)
+leaf_found text l k p s w g t e = let h = subst (LeafBy text l k p s) (sym e) (leaf_by text l k p s) in h.1 g t
 
 -- another token is refused
 pub leaf_refused : (l : Leaf) (k : Option Terminal) (p : Place) (s : List Token) → None ≡ leaf_node l k p.byte → read_leaf l (before k p s) ≡ refused_at cannot_follow (before k p s)
-unfolding read_leaf
-leaf_refused l None p s e = refl
-leaf_refused name_leaf (Some (word v)) p s e = refl
-leaf_refused name_leaf (Some (sign v)) p s e = refl
-leaf_refused name_leaf (Some (domain d)) p s e = refl
-leaf_refused name_leaf (Some (logic v)) p s e = refl
-leaf_refused name_leaf (Some (comparison v)) p s e = refl
-leaf_refused name_leaf (Some (sum v)) p s e = refl
-leaf_refused name_leaf (Some (product v)) p s e = refl
-leaf_refused name_leaf (Some (truth b)) p s e = refl
-leaf_refused name_leaf (Some (integer x)) p s e = refl
-leaf_refused name_leaf (Some (string x)) p s e = refl
-leaf_refused name_leaf (Some (name x)) p s e = absurd (let z : ◌≡◌ {A = ℕ} 0 1 = cc in omega arith)
-leaf_refused name_leaf (Some (broken v)) p s e = refl
-leaf_refused type_leaf (Some (word v)) p s e = refl
-leaf_refused type_leaf (Some (sign v)) p s e = refl
-leaf_refused type_leaf (Some (domain d)) p s e = absurd (let z : ◌≡◌ {A = ℕ} 0 1 = cc in omega arith)
-leaf_refused type_leaf (Some (logic v)) p s e = refl
-leaf_refused type_leaf (Some (comparison v)) p s e = refl
-leaf_refused type_leaf (Some (sum v)) p s e = refl
-leaf_refused type_leaf (Some (product v)) p s e = refl
-leaf_refused type_leaf (Some (truth b)) p s e = refl
-leaf_refused type_leaf (Some (integer x)) p s e = refl
-leaf_refused type_leaf (Some (string x)) p s e = refl
-leaf_refused type_leaf (Some (name x)) p s e = refl
-leaf_refused type_leaf (Some (broken v)) p s e = refl
-leaf_refused constant_leaf (Some (word v)) p s e = refl
-leaf_refused constant_leaf (Some (sign v)) p s e = refl
-leaf_refused constant_leaf (Some (domain d)) p s e = refl
-leaf_refused constant_leaf (Some (logic v)) p s e = refl
-leaf_refused constant_leaf (Some (comparison v)) p s e = refl
-leaf_refused constant_leaf (Some (sum v)) p s e = refl
-leaf_refused constant_leaf (Some (product v)) p s e = refl
-leaf_refused constant_leaf (Some (truth b)) p s e = absurd (let z : ◌≡◌ {A = ℕ} 0 1 = cc in omega arith)
-leaf_refused constant_leaf (Some (integer x)) p s e = absurd (let z : ◌≡◌ {A = ℕ} 0 1 = cc in omega arith)
-leaf_refused constant_leaf (Some (string x)) p s e = absurd (let z : ◌≡◌ {A = ℕ} 0 1 = cc in omega arith)
-leaf_refused constant_leaf (Some (name x)) p s e = refl
-leaf_refused constant_leaf (Some (broken v)) p s e = refl
+leaf_refused l k p s e = subst (LeafBy [] l k p s) (sym e) (leaf_by [] l k p s)
 
 -- it is a token, which pays for its node
-pub leaf_pays_lem : (l : Leaf) (k : Option Terminal) (n : ℕ) (w : What) → Some w ≡ leaf_node l k n → leaf_pays l ≤ pays_ahead k
-leaf_pays_lem l None n w e = absurd (let z : ◌≡◌ {A = ℕ} 0 1 = cc in omega arith)
-leaf_pays_lem name_leaf (Some (word v)) n w e = absurd (let z : ◌≡◌ {A = ℕ} 0 1 = cc in omega arith)
-leaf_pays_lem name_leaf (Some (sign v)) n w e = absurd (let z : ◌≡◌ {A = ℕ} 0 1 = cc in omega arith)
-leaf_pays_lem name_leaf (Some (domain v)) n w e = absurd (let z : ◌≡◌ {A = ℕ} 0 1 = cc in omega arith)
-leaf_pays_lem name_leaf (Some (logic v)) n w e = absurd (let z : ◌≡◌ {A = ℕ} 0 1 = cc in omega arith)
-leaf_pays_lem name_leaf (Some (comparison v)) n w e = absurd (let z : ◌≡◌ {A = ℕ} 0 1 = cc in omega arith)
-leaf_pays_lem name_leaf (Some (sum v)) n w e = absurd (let z : ◌≡◌ {A = ℕ} 0 1 = cc in omega arith)
-leaf_pays_lem name_leaf (Some (product v)) n w e = absurd (let z : ◌≡◌ {A = ℕ} 0 1 = cc in omega arith)
-leaf_pays_lem name_leaf (Some (truth v)) n w e = absurd (let z : ◌≡◌ {A = ℕ} 0 1 = cc in omega arith)
-leaf_pays_lem name_leaf (Some (integer v)) n w e = absurd (let z : ◌≡◌ {A = ℕ} 0 1 = cc in omega arith)
-leaf_pays_lem name_leaf (Some (string v)) n w e = absurd (let z : ◌≡◌ {A = ℕ} 0 1 = cc in omega arith)
-leaf_pays_lem name_leaf (Some (name v)) n w e = omega arith
-leaf_pays_lem name_leaf (Some (broken v)) n w e = absurd (let z : ◌≡◌ {A = ℕ} 0 1 = cc in omega arith)
-leaf_pays_lem type_leaf (Some (word v)) n w e = absurd (let z : ◌≡◌ {A = ℕ} 0 1 = cc in omega arith)
-leaf_pays_lem type_leaf (Some (sign v)) n w e = absurd (let z : ◌≡◌ {A = ℕ} 0 1 = cc in omega arith)
-leaf_pays_lem type_leaf (Some (domain v)) n w e = omega arith
-leaf_pays_lem type_leaf (Some (logic v)) n w e = absurd (let z : ◌≡◌ {A = ℕ} 0 1 = cc in omega arith)
-leaf_pays_lem type_leaf (Some (comparison v)) n w e = absurd (let z : ◌≡◌ {A = ℕ} 0 1 = cc in omega arith)
-leaf_pays_lem type_leaf (Some (sum v)) n w e = absurd (let z : ◌≡◌ {A = ℕ} 0 1 = cc in omega arith)
-leaf_pays_lem type_leaf (Some (product v)) n w e = absurd (let z : ◌≡◌ {A = ℕ} 0 1 = cc in omega arith)
-leaf_pays_lem type_leaf (Some (truth v)) n w e = absurd (let z : ◌≡◌ {A = ℕ} 0 1 = cc in omega arith)
-leaf_pays_lem type_leaf (Some (integer v)) n w e = absurd (let z : ◌≡◌ {A = ℕ} 0 1 = cc in omega arith)
-leaf_pays_lem type_leaf (Some (string v)) n w e = absurd (let z : ◌≡◌ {A = ℕ} 0 1 = cc in omega arith)
-leaf_pays_lem type_leaf (Some (name v)) n w e = absurd (let z : ◌≡◌ {A = ℕ} 0 1 = cc in omega arith)
-leaf_pays_lem type_leaf (Some (broken v)) n w e = absurd (let z : ◌≡◌ {A = ℕ} 0 1 = cc in omega arith)
-leaf_pays_lem constant_leaf (Some (word v)) n w e = absurd (let z : ◌≡◌ {A = ℕ} 0 1 = cc in omega arith)
-leaf_pays_lem constant_leaf (Some (sign v)) n w e = absurd (let z : ◌≡◌ {A = ℕ} 0 1 = cc in omega arith)
-leaf_pays_lem constant_leaf (Some (domain v)) n w e = absurd (let z : ◌≡◌ {A = ℕ} 0 1 = cc in omega arith)
-leaf_pays_lem constant_leaf (Some (logic v)) n w e = absurd (let z : ◌≡◌ {A = ℕ} 0 1 = cc in omega arith)
-leaf_pays_lem constant_leaf (Some (comparison v)) n w e = absurd (let z : ◌≡◌ {A = ℕ} 0 1 = cc in omega arith)
-leaf_pays_lem constant_leaf (Some (sum v)) n w e = absurd (let z : ◌≡◌ {A = ℕ} 0 1 = cc in omega arith)
-leaf_pays_lem constant_leaf (Some (product v)) n w e = absurd (let z : ◌≡◌ {A = ℕ} 0 1 = cc in omega arith)
-leaf_pays_lem constant_leaf (Some (truth v)) n w e = omega arith
-leaf_pays_lem constant_leaf (Some (integer v)) n w e = omega arith
-leaf_pays_lem constant_leaf (Some (string v)) n w e = omega arith
-leaf_pays_lem constant_leaf (Some (name v)) n w e = absurd (let z : ◌≡◌ {A = ℕ} 0 1 = cc in omega arith)
-leaf_pays_lem constant_leaf (Some (broken v)) n w e = absurd (let z : ◌≡◌ {A = ℕ} 0 1 = cc in omega arith)
+pub leaf_pays_lem : (l : Leaf) (k : Option Terminal) (p : Place) (w : What) → Some w ≡ leaf_node l k p.byte → leaf_pays l ≤ pays_ahead k
+leaf_pays_lem l k p w e = let h = subst (LeafBy [] l k p []) (sym e) (leaf_by [] l k p []) in h.0
 
 pub leaf_some : (l : Leaf) → 1 ≤ leaf_pays l
 leaf_some name_leaf = omega arith

@@ -15,7 +15,7 @@ use Rattle.tree.specs.Kept.{Below, Beyond}
 use Rattle.tree.specs.declared.nodes.Node.{Node}
 use Rattle.tree.specs.declared.nodes.What.{What}
 use Rattle.phrases.specs.declared.parsers.Parser.{Parser}
-use Rattle.phrases.specs.Places.{worth_of, following, Lies, TellsAhead}
+use Rattle.phrases.specs.Places.{pays_ahead, worth_of, following, Lies, TellsAhead}
 
 -- the place of the token ahead
 abbrev pub ahead_at : Parser → Place
@@ -43,6 +43,14 @@ pub record Grounded (text : Bytes) (arena : List Node) (p : Parser) : Type 0 whe
   pub lies : Lies text (standing p.scanner)
   pub tells : TellsAhead text (spoken p.ahead.token) (ahead_at p)
   pub entries : p.nodes.now ≡ arena
+
+-- a token is ahead, and not the text's end
+abbrev pub AtToken : Parser → Type 0
+AtToken p = 0 < pays_ahead (spoken p.ahead.token)
+
+-- a state and a later one have the same lent arena
+abbrev pub SameArena : Parser → Parser → Type 0
+SameArena a b = b.nodes.ghost_name ≡ a.nodes.ghost_name
 
 -- words and signs by number, the end by one of its own
 abbrev pub code_ahead : Option Terminal → ℕ

@@ -5,7 +5,7 @@ ghost use Rattle.grammar.specs.Promise.{any_token};
 ghost use Rattle.grammar.specs.Readers.{read_level, rest, read_attribute, read_tuple, brackets_at};
 ghost use Rattle.phrases.specs.Held.{Held};
 ghost use Rattle.phrases.specs.Sorts.{level_of, item_reader, relinked};
-ghost use Rattle.phrases.specs.States.{Numbers, NumbersOn, Follows, GoesOn};
+ghost use Rattle.phrases.specs.States.{SameArena, Numbers, NumbersOn, Follows, GoesOn};
 ghost use Rattle.tree.specs.Holds.{node_at};
 
 use crate::leaves::leaf;
@@ -25,7 +25,7 @@ pub fn link(nodes: &mut [Node], last: u16, next: u16)
 
 // attr-decl → atomic-type id
 fn attr_decl(parser: &mut Parser<'_>) -> Result<u16, Fault>
-    ensures lent { parser.new.nodes.ghost_name ≡ parser.old.nodes.ghost_name }
+    ensures lent { SameArena parser.old parser.new }
     ensures numbers { OnOk result (Numbers parser.old parser.new) }
     ensures answer { Follows (Held attribute_level) read_attribute parser.old parser.new result }
 {
@@ -38,7 +38,7 @@ fn attr_decl(parser: &mut Parser<'_>) -> Result<u16, Fault>
 // tuple-const → ( atomic-const { , atomic-const } )
 #[cycle(lists)]
 fn tuple_const(parser: &mut Parser<'_>) -> Result<u16, Fault>
-    ensures lent { parser.new.nodes.ghost_name ≡ parser.old.nodes.ghost_name }
+    ensures lent { SameArena parser.old parser.new }
     ensures numbers { OnOk result (Numbers parser.old parser.new) }
     ensures answer { (n : ℕ) → Follows (Held tuple_level) (read_tuple (brackets_at any_token n)) parser.old parser.new result }
 {
@@ -51,7 +51,7 @@ fn tuple_const(parser: &mut Parser<'_>) -> Result<u16, Fault>
 
 #[cycle(lists)]
 fn item(parser: &mut Parser<'_>, listed: Listed) -> Result<u16, Fault>
-    ensures lent { parser.new.nodes.ghost_name ≡ parser.old.nodes.ghost_name }
+    ensures lent { SameArena parser.old parser.new }
     ensures numbers { OnOk result (Numbers parser.old parser.new) }
     ensures answer { (n : ℕ) → Follows (Held (level_of listed)) (item_reader n listed) parser.old parser.new result }
 {
@@ -67,7 +67,7 @@ fn item(parser: &mut Parser<'_>, listed: Listed) -> Result<u16, Fault>
 // A list of one element or more; the answer is its first.
 #[cycle(lists)]
 pub fn list(parser: &mut Parser<'_>, listed: Listed) -> Result<u16, Fault>
-    ensures lent { parser.new.nodes.ghost_name ≡ parser.old.nodes.ghost_name }
+    ensures lent { SameArena parser.old parser.new }
     ensures numbers { OnOk result (Numbers parser.old parser.new) }
     ensures answer { (n : ℕ) → Follows (Held (level_of listed)) (read_level (item_reader n listed) (brackets_at any_token n) (level_of listed)) parser.old parser.new result }
 {
@@ -79,7 +79,7 @@ pub fn list(parser: &mut Parser<'_>, listed: Listed) -> Result<u16, Fault>
 #[cycle(lists)]
 fn more_items(parser: &mut Parser<'_>, listed: Listed, first: u16) -> Result<u16, Fault>
     requires begun { 0 < parser.old.count }
-    ensures lent { parser.new.nodes.ghost_name ≡ parser.old.nodes.ghost_name }
+    ensures lent { SameArena parser.old parser.new }
     ensures numbers { OnOk result (NumbersOn parser.old parser.new) }
     ensures answer { (n : ℕ) → GoesOn (Held (level_of listed)) (rest (item_reader n listed) (brackets_at any_token n) (level_of listed)) first parser.old parser.new result }
 {

@@ -8,6 +8,7 @@ use tree::Node;
 use words::{Lexeme, Scanner};
 
 // What is left of the text pays for each node that it brings, so that the arena never runs full.
+// Who lent the arena takes it back by moving `nodes` out, and so knows what its entries hold.
 #[derive(Drop)]
 pub struct Parser<'a> {
     pub scanner: Scanner<'a>,

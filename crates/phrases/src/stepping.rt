@@ -7,7 +7,7 @@ ghost use Rattle.grammar.specs.Parts.{code_in};
 ghost use Rattle.phrases.specs.Sorts.{wanted_of};
 ghost use Rattle.words.specs.Views.{spoken};
 ghost use Rattle.phrases.specs.Places.{pays_ahead};
-ghost use Rattle.phrases.specs.States.{ahead_at, worth, Grounded, code_ahead, fault_at, Counted, new_node, Stepped, Expected, Opened};
+ghost use Rattle.phrases.specs.States.{SameArena, AtToken, ahead_at, worth, Grounded, code_ahead, fault_at, Counted, new_node, Stepped, Expected, Opened};
 
 use crate::parsers::Parser;
 use crate::sorts::Wanted;
@@ -43,7 +43,7 @@ impl<'a> Parser<'a> {
 
     // Pulls the next token; what is no token is the text's fault.
     pub fn advance(&mut self) -> Result<(), Fault>
-        ensures lent { self.new.nodes.ghost_name ≡ self.old.nodes.ghost_name }
+        ensures lent { SameArena self.old self.new }
         ensures count { self.new.count ≡ self.old.count }
         ensures paid { OnOk result (worth self.new + pays_ahead (spoken self.old.ahead.token) ≤ worth self.old) }
         ensures step { (text : Bytes) (arena : List Node) → Grounded text arena self.old → Stepped text arena self.old self.new result }
@@ -54,7 +54,7 @@ impl<'a> Parser<'a> {
 
     // Passes the token ahead, which has to be this word or sign.
     pub fn expect(&mut self, wanted: Wanted) -> Result<(), Fault>
-        ensures lent { self.new.nodes.ghost_name ≡ self.old.nodes.ghost_name }
+        ensures lent { SameArena self.old self.new }
         ensures count { self.new.count ≡ self.old.count }
         ensures paid { OnOk result (worth self.new < worth self.old) }
         ensures step { (text : Bytes) (arena : List Node) → Grounded text arena self.old → Expected text arena (wanted_of wanted) self.old self.new result }
@@ -67,8 +67,8 @@ impl<'a> Parser<'a> {
 
     // Passes the token ahead, which opens a depth where so many are left; the answer is how many are left behind it.
     pub fn open(&mut self, depth: u8) -> Result<u8, Fault>
-        requires token { 0 < pays_ahead (spoken self.old.ahead.token) }
-        ensures lent { self.new.nodes.ghost_name ≡ self.old.nodes.ghost_name }
+        requires token { AtToken self.old }
+        ensures lent { SameArena self.old self.new }
         ensures count { self.new.count ≡ self.old.count }
         ensures paid { OnOk result (worth self.new + pays_ahead (spoken self.old.ahead.token) ≤ worth self.old) }
         ensures step { (text : Bytes) (arena : List Node) → Grounded text arena self.old → Opened text arena depth self.old self.new result }
@@ -83,7 +83,7 @@ impl<'a> Parser<'a> {
     // Takes the next entry of the arena for a node at this token.
     pub fn put(&mut self, what: What, at: Lexeme) -> u16
         requires room { self.old.count + 1 + worth self.old ≤ nodes_limit }
-        ensures lent { self.new.nodes.ghost_name ≡ self.old.nodes.ghost_name }
+        ensures lent { SameArena self.old self.new }
         ensures root { result ≡ self.old.count }
         ensures state { Counted self.old self.new }
         ensures count { self.new.count ≡ self.old.count + 1 }

@@ -1,25 +1,17 @@
 -- Arrays of which the first so many count, with more of them.
-use Rattle.std.proofs.Common.{◌≡◌, ℕ, ◌+◌, ◌<◌, ◌≤◌, Bool, true, false, cond, ltb, leb, List, [], ◌∷◌, ◌++◌, length, take, set, Some, None, Option, sym, refl, ap, ◌∙◌, arith}
+use Rattle.std.proofs.Common.{◌≡◌, ℕ, ◌+◌, ◌<◌, ◌≤◌, Bool, true, false, cond, ltb, leb, List, [], ◌∷◌, ◌++◌, length, take, Some, None, Option, sym, refl, ap, ◌∙◌, arith}
 use Rattle.std.proofs.lemmas.Bool.Decides.{nat_tests}
-use Rattle.std.proofs.lemmas.List.{length-take-le, take_more_set, length-append, append_assoc, nil_from_length, append-nil}
+use Rattle.std.proofs.lemmas.List.{length-take-le, length-append, append_assoc, nil_from_length, append-nil}
 use Rattle.fault.specs.Limits.{columns}
 use Rattle.schema.specs.declared.attributes.Attribute.{Attribute}
 use Rattle.schema.specs.Building.{with_one, with_all}
-
--- Written behind the first n, an entry is the last of n + 1.
-pub one_more : {A : Type 0} (most : ℕ) (room : List A) (n : ℕ) (a : A) → length room ≡ most → n < most →
-    Some (take (n + 1) (set room n a)) ≡ cond (ltb (length (take n room)) most) (Some (take n room ++ (a ∷ []))) None
-one_more most room n a full few =
-    let size : length (take n room) ≡ n = length-take-le n room (omega (arith, full)) in
-    let open_still : ltb (length (take n room)) most ≡ true = grind (arith, nat_tests, size) in
-    ap Some (take_more_set room n a (omega (arith, full))) ∙ sym (ap (λ b. cond b (Some (take n room ++ (a ∷ []))) None) open_still)
 
 -- A front that is no longer than the list has as many entries as were asked for.
 pub front_length : {A : Type 0} (most : ℕ) (room : List A) (n : ℕ) → length room ≡ most → n ≤ most → length (take n room) ≡ n
 front_length most room n full few = length-take-le n room (omega (arith, full))
 
 -- With one more, the rest is still to be added.
-pub grown : (before more after : List Attribute) (a : Attribute) → Some after ≡ with_one before a → with_all after more ≡ with_all before (a ∷ more)
+pub grown : (before more after : List Attribute) (a : Attribute) → Some after ≡ with_one columns before a → with_all after more ≡ with_all before (a ∷ more)
 grown before more after a h = by (ltb (length before) columns) refl h
   where
     some_in : {x y : List Attribute} → ◌≡◌ {A = Option (List Attribute)} (Some x) (Some y) → x ≡ y
@@ -33,7 +25,7 @@ grown before more after a h = by (ltb (length before) columns) refl h
     by false many e = let z : ◌≡◌ {A = ℕ} 0 1 = cc in absurd (omega arith)
 
 -- With no room for one more, there is none for it and the rest.
-pub full : (before more : List Attribute) (a : Attribute) → None ≡ with_one before a → None ≡ with_all before (a ∷ more)
+pub full : (before more : List Attribute) (a : Attribute) → None ≡ with_one columns before a → None ≡ with_all before (a ∷ more)
 full before more a h = by (ltb (length before) columns) refl h
   where
     by : (b : Bool) → ltb (length before) columns ≡ b → None ≡ cond b (Some (before ++ (a ∷ []))) None → None ≡ with_all before (a ∷ more)
@@ -49,7 +41,7 @@ added before left ended few =
     sym (ap (λ b. cond b (Some (before ++ left)) None) fits ∙ ap (λ l. Some (before ++ l)) (nil_from_length left (omega arith)) ∙ ap Some (append-nil before))
 
 -- With one more, there are not too many.
-pub one_length : (before after : List Attribute) (a : Attribute) → Some after ≡ with_one before a → length after ≤ columns
+pub one_length : (before after : List Attribute) (a : Attribute) → Some after ≡ with_one columns before a → length after ≤ columns
 one_length before after a h = by (ltb (length before) columns) refl h
   where
     some_in : {x y : List Attribute} → ◌≡◌ {A = Option (List Attribute)} (Some x) (Some y) → x ≡ y

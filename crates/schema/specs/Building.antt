@@ -3,16 +3,14 @@ use Rattle.std.specs.Prelude.{ℕ, ◌+◌, cond, List, [], ◌∷◌, ◌++◌,
 use Rattle.domain.specs.declared.Domain.TheVariants.{Integer}
 use Rattle.fault.specs.Limits.{columns}
 use Rattle.schema.specs.declared.attributes.Attribute.{Attribute}
-use Rattle.schema.specs.declared.schemas.Schema.{Schema}
-use Rattle.schema.specs.Columns.{held}
 
 -- what a cleared buffer holds
 abbrev pub blank : Attribute
 blank = record { name = None; domain = Integer }
 
--- one more at the end, while there is room
-abbrev pub with_one : List Attribute → Attribute → Option (List Attribute)
-with_one before a = cond (nat_lt (length before) columns) (Some (before ++ (a ∷ []))) None
+-- one more at the end, while there are fewer than `most`
+abbrev pub with_one : {A : Type 0} → ℕ → List A → A → Option (List A)
+with_one most before a = cond (nat_lt (length before) most) (Some (before ++ (a ∷ []))) None
 
 -- the others behind them, while there is room
 abbrev pub with_all : List Attribute → List Attribute → Option (List Attribute)
@@ -21,8 +19,3 @@ with_all before more = cond (nat_le (length before + length more) columns) (Some
 -- the attribute at a position, if there is one
 abbrev pub nth : List Attribute → ℕ → Option Attribute
 nth held position = cond (nat_lt position (length held)) (Some (slice_index_or held position blank)) None
-
--- the attributes of a schema that may be missing
-abbrev pub held_by : Option Schema → Option (List Attribute)
-held_by None = None
-held_by (Some s) = Some (held s)

@@ -1,7 +1,9 @@
 // How schemas are made: empty, and with one attribute more at the end, while there is room.
 ghost use Rattle.std.specs.Prelude.{◌≡◌, ℕ, ◌+◌, ◌-◌, ◌<◌, ◌≤◌, List, [], length};
+ghost use Rattle.std.specs.Option.{option_map};
+ghost use Rattle.fault.specs.Limits.{columns};
 ghost use Rattle.schema.specs.Columns.{held};
-ghost use Rattle.schema.specs.Building.{with_one, with_all, nth, held_by};
+ghost use Rattle.schema.specs.Building.{with_one, with_all, nth};
 
 use crate::attributes::Attribute;
 use crate::schemas::Schema;
@@ -34,7 +36,7 @@ impl Schema {
 
     // One attribute more at the end; none if the schema is full.
     pub fn with(self, attribute: Attribute) -> Option<Schema>
-        ensures { held_by result ≡ with_one (held self) attribute }
+        ensures { option_map held result ≡ with_one columns (held self) attribute }
     {
         if self.len == COLUMNS {
             return None;
@@ -47,7 +49,7 @@ impl Schema {
 
     // The attributes of the other behind those of this one; none if there are too many.
     pub fn append(self, other: &Schema) -> Option<Schema>
-        ensures { held_by result ≡ with_all (held self) (held other.now) }
+        ensures { option_map held result ≡ with_all (held self) (held other.now) }
     {
         let mut longer = self;
         for attribute in other.attributes() {

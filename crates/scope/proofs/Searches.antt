@@ -78,14 +78,6 @@ module _ {E : Type 0} (is : E → Bool) where
       by (Some n) = refl
       by None = refl
 
-  -- A position was found, so the list has one.
-  pub position_any : (es : List E) (k : ℕ) → Some k ≡ position_of (newest_of is es) → true ≡ any is es
-  position_any es k h = sym (any_position es h)
-
-  -- No position was found, so the list has none.
-  pub no_position_any : (es : List E) → None ≡ position_of (newest_of is es) → false ≡ any is es
-  no_position_any es h = sym (any_position es h)
-
   -- An empty outermost list changes nothing.
   pub find_empty_end : (lists : List (List E)) → find is (lists ++ ([] ∷ [])) ≡ find is lists
   find_empty_end [] = refl

@@ -19,7 +19,7 @@ impl Named for Attribute {
     ghost spelling = { λ text a. name_of text a };
 
     fn is(&self, text: &[u8], name: &[u8]) -> bool {
-        is_called((*self).name(text), name)
+        is_called(self.name(text), name)
     }
 }
 

@@ -1,6 +1,9 @@
 // How the lists of a chain nest: one more begins while there is room.
 ghost use Rattle.std.specs.Prelude.{◌≡◌, List, [], length};
-ghost use Rattle.scope.specs.Nesting.{begun, begun_by, with_start};
+ghost use Rattle.std.specs.Option.{option_map};
+ghost use Rattle.fault.specs.Limits.{depth};
+ghost use Rattle.schema.specs.Building.{with_one};
+ghost use Rattle.scope.specs.Nesting.{begun};
 
 use crate::starts::Starts;
 use fault::limits::DEPTH;
@@ -25,7 +28,7 @@ impl Starts {
 
     // One list more, from here on; none if there are too many.
     pub fn with(self, start: usize) -> Option<Starts>
-        ensures { begun_by result ≡ with_start (begun self) start }
+        ensures { option_map begun result ≡ with_one depth (begun self) start }
     {
         if self.len == DEPTH {
             return None;

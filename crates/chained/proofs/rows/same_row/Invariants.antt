@@ -1,8 +1,8 @@
-use Rattle.std.proofs.Common.{◌≡◌, ◌-◌, ◌^◌, ◌<◌, true, length, drop}
+use Rattle.std.proofs.Common.{◌≡◌, ◌-◌, true, length, drop}
 use Rattle.store.specs.Meaning.{same_row}
-use Rattle.chained.specs.Chains.{walk, gather, under}
+use Rattle.chained.specs.Chains.{nexts, values, walk, gather, under}
 use Rattle.chained.proofs.rows.same_row.Given as goal
 
-abbrev pub invariant-loop-i : goal.invariant-loop-i
-invariant-loop-i l =
-    (same_row (gather l.cells (walk l.links (length l.row - l.i) l.at)) (drop l.i l.row) ≡ same_row (gather l.cells (walk l.links (length l.row) l.from)) l.row) × (under (length l.cells) (walk l.links (length l.row - l.i) l.at) ≡ true) × (l.at < 2 ^ 16)
+abbrev pub invariant-loop-cell : goal.invariant-loop-cell
+invariant-loop-cell l =
+    (same_row (gather (values l.links) (walk (nexts l.links) (length l.row - l.cell-index) l.at)) (drop l.cell-index l.row) ≡ same_row (gather (values l.links) (walk (nexts l.links) (length l.row) l.from)) l.row) × (under (length l.links) (walk (nexts l.links) (length l.row - l.cell-index) l.at) ≡ true)

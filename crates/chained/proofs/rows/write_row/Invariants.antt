@@ -1,7 +1,8 @@
-use Rattle.std.proofs.Common.{◌≡◌, ◌^◌, ◌<◌, take}
-use Rattle.chained.specs.Chains.{walk, step, put}
+use Rattle.std.proofs.Common.{◌≡◌, take}
+use Rattle.chained.specs.Chains.{nexts, values, walk, step, put}
 use Rattle.chained.proofs.rows.write_row.Given as goal
 
-abbrev pub invariant-loop-i : goal.invariant-loop-i
-invariant-loop-i l =
-    (l.at ≡ step l.links l.i l.from) × (l.cells ≡ put l.initial.cells (walk l.links l.i l.from) (take l.i l.row)) × (l.at < 2 ^ 16)
+abbrev pub invariant-loop-cell : goal.invariant-loop-cell
+invariant-loop-cell l =
+    let ns = nexts l.initial.links in
+    (l.at ≡ step ns l.cell-index l.from) × (values l.links ≡ put (values l.initial.links) (walk ns l.cell-index l.from) (take l.cell-index l.row)) × (nexts l.links ≡ ns)

@@ -1,13 +1,13 @@
-use Rattle.std.proofs.Common.{sym, ◌∙◌, arith}
-use Rattle.std.proofs.lemmas.Bool.Decides.{nat_tests}
-use Rattle.inference.proofs.Meeting.{meet_here, meet_later, meet_ended}
+use Rattle.std.proofs.Common.{rules, ◌∙◌}
+use Rattle.std.proofs.lemmas.Iterator.{YieldsList-from_slice}
+use Rattle.std.proofs.lemmas.Iterator.Search.{any_from_yields_List}
+use Rattle.schema.specs.Columns.{name_of}
+use Rattle.schema.specs.Spelled.{columns_of}
+use Rattle.typing.specs.Tables.{meets_in}
+use Rattle.inference.proofs.Meeting.{any_meet}
 use Rattle.inference.proofs.columns.meets.Goals as goal
 
-pub returns-then-meets_in : goal.returns-then-meets_in
-returns-then-meets_in c = meet_here c.args.text.now c.loop-ours.ours.now _ _ (grind (arith, nat_tests)) (sym c.meets_in.ensures ∙ c.if-meets_in.true) ∙ c.loop-ours.invariant
-
-pub loop-ours-preserved : goal.loop-ours-preserved
-loop-ours-preserved c = meet_later c.args.text.now c.loop-ours.ours.now _ _ (grind (arith, nat_tests)) (sym c.meets_in.ensures ∙ c.if-meets_in.false) ∙ c.loop-ours.invariant
-
 pub returns : goal.returns
-returns c = meet_ended c.args.text.now c.loop-ours.ours.now _ (grind (arith, nat_tests)) ∙ c.loop-ours.invariant
+returns c =
+    any_from_yields_List (λ a. meets_in (columns_of c.args.right) (name_of c.args.left.text.now a)) c.any.new.self _ _ c.any.ensures.ran (YieldsList-from_slice c.args.left.attributes.now c.iter.ensures.rest) (λ x b q k. search rules)
+    ∙ any_meet c.args.left.text.now c.args.left.attributes.now (columns_of c.args.right)

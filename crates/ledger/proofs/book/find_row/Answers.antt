@@ -1,23 +1,24 @@
-use Rattle.std.proofs.Common.{length, get_or, sym, ap, ◌∙◌, arith}
-use Rattle.ledger.proofs.Passes.{lines_hit, lines_miss, lines_end, find_here, find_on}
+use Rattle.std.proofs.Common.{◌≡◌, suc, ◌+◌, ◌-◌, drop, sym, ap, ◌∙◌, ap₂, arith}
+use Rattle.std.specs.List.{slice_get}
+use Rattle.ledger.specs.Lines.{lines_of}
+use Rattle.ledger.proofs.Passes.{lines_hit, lines_miss, lines_end}
 use Rattle.ledger.proofs.book.find_row.Goals as goal
-
-pub loop-i-preserved-then-lines-i : goal.loop-i-preserved-then-lines-i
-loop-i-preserved-then-lines-i c =
-    let on = lines_miss c.args.lines.now c.args.table c.loop-i.i _ (omega arith) c.if-lines-i.true in
-    (λ d. ap (λ x. get_or x c.loop-i.left d) (sym on) ∙ c.loop-i.invariant.0 d, omega (arith, ap length on, c.loop-i.invariant.1))
+use Rattle.ledger.proofs.book.find_row.Goals.{then-line-table+else-left-eq0, else-line-table}
 
 pub returns-then-left-eq0 : goal.returns-then-left-eq0
 returns-then-left-eq0 c =
-    record {
-      inside = omega arith;
-      line = λ d. find_here c.args.lines.now c.args.table c.loop-i.i c.loop-i.left _ d (omega arith) c.if-lines-i.false (omega arith) ∙ c.loop-i.invariant.0 d;
-    }
+    sym (ap₂ slice_get (lines_hit c.args.lines.now c.args.table c.loop-line.line-index _ (omega arith) c.if-line-table.true) c.if-left-eq0.true) ∙ c.loop-line.invariant
 
-pub loop-i-preserved : goal.loop-i-preserved
-loop-i-preserved c =
-    let on = lines_hit c.args.lines.now c.args.table c.loop-i.i _ (omega arith) c.if-lines-i.false in
-    (λ d. find_on c.args.lines.now c.args.table c.loop-i.i c.loop-i.left _ d (omega arith) c.if-lines-i.false (omega arith) ∙ c.loop-i.invariant.0 d, omega (arith, ap length on, c.loop-i.invariant.1))
+pub loop-line-preserved : goal.loop-line-preserved
+loop-line-preserved c =
+    elim c.if-line-table.branch [
+      | then-line-table+else-left-eq0 w ↦
+          (let up : c.loop-line.left ≡ suc (c.loop-line.left - 1) = omega arith in
+          ap (slice_get (lines_of c.args.table (drop (c.loop-line.line-index + 1) c.args.lines.now))) w.left-is ∙ sym (ap₂ slice_get (lines_hit c.args.lines.now c.args.table c.loop-line.line-index _ (omega arith) w.if-line-table.true) up) ∙ c.loop-line.invariant)
+      | else-line-table w ↦
+          ap (slice_get (lines_of c.args.table (drop (c.loop-line.line-index + 1) c.args.lines.now))) w.left-is ∙ sym (ap (λ x. slice_get x c.loop-line.left) (lines_miss c.args.lines.now c.args.table c.loop-line.line-index _ (omega arith) w.if-line-table.false)) ∙ c.loop-line.invariant
+    ]
 
 pub returns : goal.returns
-returns c = absurd (omega (arith, c.loop-i.invariant.1, ap length (lines_end c.args.lines.now c.args.table c.loop-i.i (omega arith))))
+returns c =
+    sym (ap (λ x. slice_get x c.loop-line.left) (lines_end c.args.lines.now c.args.table c.loop-line.line-index (omega arith))) ∙ c.loop-line.invariant

@@ -1,15 +1,18 @@
-use Rattle.std.proofs.Common.{arith}
+use Rattle.std.proofs.Common.{◌∙◌, arith}
+use Rattle.std.proofs.lemmas.List.{set-get_or}
 use Rattle.ledger.proofs.Passes.{renumber_hit, renumber_miss, renumber_all, renumber_long}
 use Rattle.ledger.proofs.book.renumber.Goals as goal
+use Rattle.ledger.proofs.book.renumber.Goals.{then-line-from, else-line-from}
 
-pub loop-i-preserved-then-lines-i : goal.loop-i-preserved-then-lines-i
-loop-i-preserved-then-lines-i c =
-    renumber_miss c.args.lines.now c.loop-i.lines c.args.from c.args.to c.loop-i.i _ (omega (arith, renumber_long c.args.lines.now c.loop-i.lines c.args.from c.args.to c.loop-i.i c.loop-i.invariant)) c.loop-i.invariant c.if-lines-i.true
-
-pub loop-i-preserved : goal.loop-i-preserved
-loop-i-preserved c =
-    renumber_hit c.args.lines.now c.loop-i.lines c.args.from c.args.to c.loop-i.i _ (omega (arith, renumber_long c.args.lines.now c.loop-i.lines c.args.from c.args.to c.loop-i.i c.loop-i.invariant)) c.loop-i.invariant c.if-lines-i.false
+pub loop-line-preserved : goal.loop-line-preserved
+loop-line-preserved c =
+    let long = renumber_long c.args.lines.now c.loop-line.lines c.args.from c.args.to c.loop-line.line-index c.loop-line.invariant in
+    elim c.if-line-from.branch [
+      | then-line-from w ↦ w.lines-is ∙ renumber_hit c.args.lines.now c.loop-line.lines c.args.from c.args.to c.loop-line.line-index _ (omega (arith, long)) c.loop-line.invariant w.if-line-from.true
+      | else-line-from w ↦ w.lines-is ∙ set-get_or c.loop-line.lines c.loop-line.line-index _ ∙ renumber_miss c.args.lines.now c.loop-line.lines c.args.from c.args.to c.loop-line.line-index _ (omega (arith, long)) c.loop-line.invariant w.if-line-from.false
+    ]
 
 pub returns : goal.returns
 returns c =
-    renumber_all c.args.lines.now c.loop-i.lines c.args.from c.args.to c.loop-i.i (omega (arith, renumber_long c.args.lines.now c.loop-i.lines c.args.from c.args.to c.loop-i.i c.loop-i.invariant)) c.loop-i.invariant
+    let long = renumber_long c.args.lines.now c.loop-line.lines c.args.from c.args.to c.loop-line.line-index c.loop-line.invariant in
+    renumber_all c.args.lines.now c.loop-line.lines c.args.from c.args.to c.loop-line.line-index (omega (arith, long)) c.loop-line.invariant

@@ -7,43 +7,28 @@ use Rattle.phrases.specs.Held.{Held, leaf_level}
 use Rattle.phrases.specs.Sorts.{leaf_of}
 use Rattle.phrases.specs.States.{refused_by}
 use Rattle.phrases.proofs.LeafNodes.{leaf_found, leaf_refused, leaf_pays_lem, leaf_some}
-use Rattle.phrases.proofs.Puts.{done_put, numbers_put, to_refusal}
-use Rattle.phrases.proofs.Steps.{cases_err, answers_err, stepped_ok, stepped_broken, found_broken, refuses}
+use Rattle.phrases.proofs.Puts.{done_put, to_refusal}
+use Rattle.phrases.proofs.Steps.{answers_err, stepped_ok, stepped_broken, found_broken, refuses}
 use Rattle.phrases.proofs.leaves.leaf.Goals as goal
 
-pub returns-in_err-advance-in-Some : goal.returns-in_err-advance-in-Some
-returns-in_err-advance-in-Some c =
+pub returns-in_err-advance-in-Some-clause-answer : goal.returns-in_err-advance-in-Some-clause-answer
+returns-in_err-advance-in-Some-clause-answer c =
     let y = err_from_is_err_and c.from_residual.result c.from_residual.ensures.1 in
-    record {
-      lent = c.advance.ensures.lent;
-      numbers = cases_err _ _ _ y.1;
-      spare = cases_err _ _ _ y.1;
-      answer = λ text xs g.
-          let h = leaf_found text _ _ _ _ _ g.lies.small g.tells c.in-Some.ensures in
-          answers_err _ _ _ _ _ _ _ _ _ _ _ y.1 y.2 (found_broken _ _ _ _ _ h.1 (stepped_broken _ _ _ _ _ (c.in_err-advance-in-Some.ensures.step text xs g)));
-    }
+    λ text xs g.
+    let h = leaf_found text _ _ _ _ _ g.lies.small g.tells c.in-Some.ensures in
+    answers_err _ _ _ _ _ _ _ _ _ _ _ y.1 y.2 (found_broken _ _ _ _ _ h.1 (stepped_broken _ _ _ _ _ (c.in_err-advance-in-Some.ensures.step text xs g)))
 
-pub returns-in_ok-advance-in-Some : goal.returns-in_ok-advance-in-Some
-returns-in_ok-advance-in-Some c =
+pub returns-in_ok-advance-in-Some-clause-answer : goal.returns-in_ok-advance-in-Some-clause-answer
+returns-in_ok-advance-in-Some-clause-answer c =
     let n = c.in_ok-advance-in-Some.ensures in
     let one = leaf_some (leaf_of c.args.leaf) in
-    let some = leaf_pays_lem (leaf_of c.args.leaf) (spoken c.args.parser.now.ahead.token) c.args.parser.now.ahead.place.byte _ c.in-Some.ensures in
-    record {
-      lent = c.put.ensures.lent ∙ c.advance.ensures.lent;
-      numbers = numbers_put _ _ _ c.put.ensures.state (omega (arith, n.count, n.paid, some, one)) (omega (arith, n.paid, some, one)) (omega (arith, n.count));
-      spare = omega (arith, n.count, n.paid, some, c.put.ensures.count, c.put.ensures.worth);
-      answer = λ text xs g.
-          let h = leaf_found text _ _ _ _ _ g.lies.small g.tells c.in-Some.ensures in
-          let s = stepped_ok _ _ _ _ _ (n.step text xs g) in
-          done_put _ _ _ _ _ _ _ _ _ _ _ _ _ c.put.ensures.state c.put.ensures.nodes c.put.ensures.root (h.1 ∙ ap (found h.0) (sym s.1)) s.0 (λ i l. refl) (λ i l. refl) (omega (arith, n.count)) (omega (arith, c.args.parser.now.room, n.count, n.paid, some, one))
-          (λ _ says next. subst (λ m. Held (leaf_level (leaf_of c.args.leaf)) text c.put.new.self.nodes.now m (suc c.advance.new.self.count) c.advance.new.self.count h.0) n.count (h.2 _ _ says next));
-    }
+    let some = leaf_pays_lem (leaf_of c.args.leaf) (spoken c.args.parser.now.ahead.token) c.args.parser.now.ahead.place _ c.in-Some.ensures in
+    λ text xs g.
+    let h = leaf_found text _ _ _ _ _ g.lies.small g.tells c.in-Some.ensures in
+    let s = stepped_ok _ _ _ _ _ (n.step text xs g) in
+    done_put _ _ _ _ _ _ _ _ _ _ _ _ _ c.put.ensures.state c.put.ensures.nodes c.put.ensures.root (h.1 ∙ ap (found h.0) (sym s.1)) s.0 (λ i l. refl) (λ i l. refl) (omega (arith, n.count)) (omega (arith, c.args.parser.now.room, n.count, n.paid, some, one))
+    (λ _ says next. subst (λ m. Held (leaf_level (leaf_of c.args.leaf)) text c.put.new.self.nodes.now m (suc c.advance.new.self.count) c.advance.new.self.count h.0) n.count (h.2 _ _ says next))
 
-pub returns-in-None : goal.returns-in-None
-returns-in-None c =
-    record {
-      lent = refl;
-      numbers = tt;
-      spare = tt;
-      answer = λ text xs g. to_refusal _ _ _ _ _ _ _ _ _ _ c.refuse.ensures (ap (refused_by (end_of text)) (leaf_refused _ _ _ _ c.in-None.ensures) ∙ refuses text xs _ g);
-    }
+pub returns-in-None-clause-answer : goal.returns-in-None-clause-answer
+returns-in-None-clause-answer c =
+    λ text xs g. to_refusal _ _ _ _ _ _ _ _ _ _ c.refuse.ensures (ap (refused_by (end_of text)) (leaf_refused _ _ _ _ c.in-None.ensures) ∙ refuses text xs _ g)

@@ -1,32 +1,19 @@
-use Rattle.std.proofs.Common.{Err, ap, ◌∙◌, ap₂, inl, inr, ⊎_elim, arith}
-use Rattle.store.proofs.Cases.{open_many, open_outside, open_accepted}
+use Rattle.std.proofs.Common.{refl, ap, ◌∙◌}
 use Rattle.directory.specs.Run.{laid}
-use Rattle.directory.proofs.Decoding.{length_decode}
-use Rattle.directory.proofs.Keeping.{decode_open}
-use Rattle.chained.proofs.Keeping.{kept_open, run_open}
-use Rattle.chained.proofs.Fields.{entries, cells, links, run, meaning, kept, parts}
+use Rattle.directory.proofs.Keeping.{open_done}
+use Rattle.chained.specs.Chains.{values, nexts}
+use Rattle.chained.proofs.Keeping.{kept_opened, run_opened}
+use Rattle.chained.proofs.Fields.{entries, links, run, kept, parts}
 use Rattle.chained.proofs.store_impl.ChainedRowStore.open.Goals as goal
-
-pub returns-then-len-ge-TABLES : goal.returns-then-len-ge-TABLES
-returns-then-len-ge-TABLES c =
-    let s = c.args.self.now in
-    let r = open_many (meaning s) c.args.width (omega (arith, length_decode (entries s) (run s))) in
-    record { reply = ap Err c.refuse.ensures ∙ r.0; after = r.1 }
-
-pub returns-then-wide-lt1 : goal.returns-then-wide-lt1
-returns-then-wide-lt1 c =
-    let s = c.args.self.now in
-    let r = open_outside (meaning s) c.args.width (omega (arith, length_decode (entries s) (run s))) (⊎_elim inl (λ p. inr (omega arith)) c.then-wide-lt1.either) in
-    record { reply = ap Err c.refuse-then-wide-lt1.ensures ∙ r.0; after = r.1 }
 
 pub invariant_of-self : goal.invariant_of-self
 invariant_of-self c =
     let s = c.args.self.now in
-    parts (kept_open c.args.width _ (kept s) (omega arith) (omega arith) (omega arith) c.push_reserved.ensures.items) (omega (arith, c.push_reserved.ensures.capacity))
+    parts (links s) refl (kept_opened c.args.width c.open.result _ (kept s) c.open.ensures)
 
 pub returns : goal.returns
 returns c =
     let s = c.args.self.now in
-    let r = open_accepted (meaning s) c.args.width (omega (arith, length_decode (entries s) (run s))) (omega arith) (omega arith) in
-    let grew = c.push_reserved.ensures.items in
-    record { reply = r.0; after = ap₂ (laid s.capacity) grew (run_open (entries s) _ (cells s) (links s) c.args.width grew) ∙ ap (λ ts. record { capacity = s.capacity; tables = ts }) (decode_open (entries s) (run s) 0 c.args.width) ∙ r.1 }
+    let r = open_done s.capacity (entries s) (run s) _ c.args.width c.open.result _ c.open.ensures in
+    let same = run_opened (entries s) c.args.width c.open.result _ (values (links s)) (nexts (links s)) c.open.ensures in
+    record { reply = r.0; after = ap (laid s.capacity _) same ∙ r.1 }

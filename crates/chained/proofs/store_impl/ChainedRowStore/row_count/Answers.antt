@@ -1,14 +1,18 @@
-use Rattle.std.proofs.Common.{Err, ap, ◌∙◌, arith}
+use Rattle.std.proofs.Common.{Err, ap, ◌∙◌}
+use Rattle.std.proofs.lemmas.Result.{err_from_is_err_and}
 use Rattle.directory.proofs.Questions.{rows_refused, rows_answered}
 use Rattle.chained.proofs.Fields.{entries, run}
 use Rattle.chained.proofs.store_impl.ChainedRowStore.row_count.Goals as goal
 
-pub returns-then-place-len : goal.returns-then-place-len
-returns-then-place-len c =
+pub returns-in_err-entry : goal.returns-in_err-entry
+returns-in_err-entry c =
     let s = c.args.self.now in
-    ap Err c.refuse.ensures ∙ rows_refused s.capacity (entries s) (run s) c.args.table (omega arith)
+    let h = c.in_err-entry.ensures in
+    let p = err_from_is_err_and c.from_residual.result c.from_residual.ensures.1 in
+    rw (p.1, p.2) (ap Err h.1 ∙ rows_refused s.capacity (entries s) (run s) c.args.table h.0)
 
 pub returns : goal.returns
 returns c =
     let s = c.args.self.now in
-    rows_answered s.capacity (entries s) (run s) c.args.table c.index.result.now (omega arith) c.index.ensures
+    let h = c.in_ok-entry.ensures in
+    rows_answered s.capacity (entries s) (run s) c.args.table _ h.0 h.1

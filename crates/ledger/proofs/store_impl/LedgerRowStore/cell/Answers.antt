@@ -1,40 +1,55 @@
-use Rattle.std.proofs.Common.{length, get_or, pos, Ok, Err, sym, refl, ap, ◌∙◌, inl, inr, ⊎_elim, arith, w64, SFits, rules}
+use Rattle.std.proofs.Common.{◌≡◌, ℤ, Some, get_or, pos, Ok, Err, sym, refl, ap, ◌∙◌, inl, inr, arith, w64, SFits, rules}
+use Rattle.std.specs.List.{slice_get}
+use Rattle.std.specs.Option.{ok_or}
 use Rattle.std.proofs.lemmas.List.{get_or_read}
 use Rattle.std.proofs.lemmas.Int.{to_z-of_z}
+use Rattle.std.proofs.lemmas.Option.{slice_get_within, get_or_from_slice_get}
+use Rattle.std.proofs.lemmas.Result.{err_from_is_err_and}
 use Rattle.store.specs.Meaning.{no_table}
 use Rattle.store.proofs.Cases.{cell_absent}
 use Rattle.ledger.specs.Lines.{lines_of}
 use Rattle.ledger.proofs.Fields.{widths, lines, meaning}
 use Rattle.ledger.proofs.Numbering.{length_numbered, table_is, table_good}
-use Rattle.ledger.proofs.Counting.{rows_counted}
+use Rattle.ledger.proofs.Counting.{rows_counted, row_missing}
 use Rattle.ledger.proofs.Changes.{cell_is}
 use Rattle.ledger.proofs.store_impl.LedgerRowStore.cell.Goals as goal
 
-pub returns-then-place-len : goal.returns-then-place-len
-returns-then-place-len c =
+pub returns-in_err-width : goal.returns-in_err-width
+returns-in_err-width c =
     let s = c.args.self.now in
-    ap Err c.refuse.ensures ∙ cell_absent (meaning s) c.args.table c.args.row c.args.column (inl (omega (arith, length_numbered 0 (widths s) (lines s))))
+    let h = c.in_err-width.ensures in
+    let p = err_from_is_err_and c.from_residual.result c.from_residual.ensures.1 in
+    rw (p.1, p.2) (ap Err h.1 ∙ cell_absent (meaning s) c.args.table c.args.row c.args.column (inl (omega (arith, h.0, length_numbered 0 (widths s) (lines s)))))
 
-pub returns-then-number-count : goal.returns-then-number-count
-returns-then-number-count c =
+pub returns-in_err-line : goal.returns-in_err-line
+returns-in_err-line c =
     let s = c.args.self.now in
-    let counted = c.count_rows-count.ensures ∙ ap (λ ls. length (lines_of c.args.table ls)) c.deref.ensures.value ∙ rows_counted (widths s) (lines s) c.args.table (omega arith) in
-    let wide = get_or_read (widths s) _ _ (omega arith) c.index-width.ensures 0 ∙ ap (λ x. x.width) (sym (table_is (widths s) (lines s) c.args.table no_table (omega arith))) in
-    ap Err c.refuse-then-number-count.ensures ∙ cell_absent (meaning s) c.args.table c.args.row c.args.column (inr (⊎_elim (λ p. inl (omega (arith, counted, p))) (λ p. inr (omega (arith, wide, p.1))) c.then-number-count.either))
+    let h = c.in_ok-width.ensures in
+    let missing = row_missing (lines_of c.args.table (lines s)) c.args.row _ _ (c.in_err-line.ensures.value ∙ ap (λ o. ok_or o c.refuse.result) (c.find_row-line.ensures ∙ ap (λ ls. slice_get (lines_of c.args.table ls) c.args.row) c.deref.ensures.value)) in
+    let p = err_from_is_err_and c.from_residual-in_err-line.result c.from_residual-in_err-line.ensures.1 in
+    rw (p.1, p.2) (ap Err (missing.1 ∙ c.refuse.ensures) ∙ cell_absent (meaning s) c.args.table c.args.row c.args.column (inr (inl (omega (arith, missing.0, rows_counted (widths s) (lines s) c.args.table h.0)))))
 
-pub bounds-index-column : goal.bounds-index-column
-bounds-index-column c =
+pub returns-then-column-width : goal.returns-then-column-width
+returns-then-column-width c =
     let s = c.args.self.now in
-    let wide = get_or_read (widths s) _ _ (omega arith) c.index-width.ensures 0 in
-    omega (arith, wide, (table_good (widths s) (lines s) c.args.table (omega arith) s.sound).1)
+    let h = c.in_ok-width.ensures in
+    let wide = get_or_read (widths s) _ _ h.0 h.1 0 ∙ ap (λ x. x.width) (sym (table_is (widths s) (lines s) c.args.table no_table h.0)) in
+    ap Err c.refuse-then-column-width.ensures ∙ cell_absent (meaning s) c.args.table c.args.row c.args.column (inr (inr (omega (arith, wide))))
+
+pub bounds-line-column : goal.bounds-line-column
+bounds-line-column c =
+    let s = c.args.self.now in
+    let h = c.in_ok-width.ensures in
+    omega (arith, get_or_read (widths s) _ _ h.0 h.1 0, (table_good (widths s) (lines s) c.args.table h.0 s.sound).1)
 
 pub returns : goal.returns
 returns c =
     let s = c.args.self.now in
-    let l = c.index.result.now in
-    let x = get_or l.cells c.args.column (pos 0) in
+    let h = c.in_ok-width.ensures in
+    let l = c.in_ok-line.line in
+    let rows = lines_of c.args.table (lines s) in
+    let x : ℤ = get_or l.cells c.args.column (pos 0) in
     let f : SFits w64 x = search rules in
-    let wide = get_or_read (widths s) _ _ (omega arith) c.index-width.ensures 0 in
-    let counted = c.count_rows-count.ensures ∙ ap (λ ls. length (lines_of c.args.table ls)) c.deref.ensures.value in
-    let line = c.index.ensures ∙ ap (λ ls. get_or ls c.find_row-at.result l) (sym c.deref-2.ensures.value) ∙ c.find_row-at.ensures.line l ∙ ap (λ ls. get_or (lines_of c.args.table ls) c.args.row l) c.deref-2.ensures.value in
-    ap Ok (to_z-of_z w64 x f) ∙ cell_is s.capacity (widths s) (lines s) c.args.table c.args.row c.args.column l x (omega arith) (omega (arith, counted)) (omega (arith, wide)) line refl
+    let wide = get_or_read (widths s) _ _ h.0 h.1 0 in
+    let found : slice_get rows c.args.row ≡ Some l = sym (c.find_row-line.ensures ∙ ap (λ ls. slice_get (lines_of c.args.table ls) c.args.row) c.deref.ensures.value) ∙ c.in_ok-line.ensures.ok_part in
+    ap Ok (to_z-of_z w64 x f) ∙ cell_is s.capacity (widths s) (lines s) c.args.table c.args.row c.args.column l x h.0 (slice_get_within rows c.args.row l found) (omega (arith, wide)) (sym (get_or_from_slice_get rows c.args.row l l found)) refl

@@ -1,4 +1,5 @@
 use Rattle.std.proofs.Common.{length, Ok, Err, ap, ◌∙◌, arith}
+use Rattle.std.proofs.lemmas.Result.{err_from_is_err_and}
 use Rattle.store.proofs.Cases.{rows_absent, rows_told}
 use Rattle.ledger.specs.Lines.{lines_of}
 use Rattle.ledger.proofs.Fields.{widths, lines, meaning}
@@ -6,10 +7,12 @@ use Rattle.ledger.proofs.Numbering.{length_numbered}
 use Rattle.ledger.proofs.Counting.{rows_counted, few_lines}
 use Rattle.ledger.proofs.store_impl.LedgerRowStore.row_count.Goals as goal
 
-pub returns-then-place-len : goal.returns-then-place-len
-returns-then-place-len c =
+pub returns-in_err-entry : goal.returns-in_err-entry
+returns-in_err-entry c =
     let s = c.args.self.now in
-    ap Err c.refuse.ensures ∙ rows_absent (meaning s) c.args.table (omega (arith, length_numbered 0 (widths s) (lines s)))
+    let h = c.in_err-entry.ensures in
+    let p = err_from_is_err_and c.from_residual.result c.from_residual.ensures.1 in
+    rw (p.1, p.2) (ap Err h.1 ∙ rows_absent (meaning s) c.args.table (omega (arith, h.0, length_numbered 0 (widths s) (lines s))))
 
 pub overflow_cast-result : goal.overflow_cast-result
 overflow_cast-result c =
@@ -19,4 +22,5 @@ overflow_cast-result c =
 pub returns : goal.returns
 returns c =
     let s = c.args.self.now in
-    ap Ok (c.count_rows.ensures ∙ ap (λ ls. length (lines_of c.args.table ls)) c.deref.ensures.value ∙ rows_counted (widths s) (lines s) c.args.table (omega arith)) ∙ rows_told (meaning s) c.args.table (omega (arith, length_numbered 0 (widths s) (lines s)))
+    let here = c.in_ok-entry.ensures.0 in
+    ap Ok (c.count_rows.ensures ∙ ap (λ ls. length (lines_of c.args.table ls)) c.deref.ensures.value ∙ rows_counted (widths s) (lines s) c.args.table here) ∙ rows_told (meaning s) c.args.table (omega (arith, here, length_numbered 0 (widths s) (lines s)))
