@@ -2,31 +2,29 @@
 // The expected places come from a small reader of its own, written apart from this one.
 #![tactic(auto)]
 
-ghost use Rattle.std.specs.Prelude.{◌≡◌, codes};
+ghost use Rattle.std.specs.Prelude.{◌≡◌, ◌↔◌, IsTrue, codes};
 ghost use Rattle.schema.specs.Columns.{schema_of};
-ghost use Rattle.listing_trials.specs.Trials.{columns, answer_of, same_answer, holds, FirstWrong};
+ghost use Rattle.listing.specs.Whole.{table_reply};
+ghost use Rattle.listing_trials.specs.Trials.{columns, refusal_of, told, Holds, FirstWrong};
 
 use domain::Domain;
-use fault::Layer;
+use fault::{Fault, Layer};
 use listing::read_table;
 use schema::{Attribute, Schema};
 use words::Span;
 
-// How a text is answered: by its number of rows, or by the layer that refuses and the byte.
-#[derive(Clone, Copy, Debug)]
-pub enum Answer {
-    Rows,
-    Heading,
-    Row,
-    Cell,
-    Other,
+// Which layer refuses a text, and at which byte.
+#[derive(Clone, Copy, Debug, PartialEq, Eq)]
+struct Refusal {
+    layer: Layer,
+    byte: usize,
 }
 
+// A text is answered by its number of rows, or refused.
 #[derive(Clone, Copy)]
-pub struct Trial<'a> {
-    pub text: &'a [u8],
-    pub answer: Answer,
-    pub number: usize,
+struct Trial<'a> {
+    text: &'a [u8],
+    expected: Result<usize, Refusal>,
 }
 
 // The schema `(a:i,b:s)` over the script `ab`.
@@ -42,59 +40,39 @@ fn two_columns() -> Schema
         domain: Domain::String,
     };
     let none = Schema::empty();
-    match none.with(first) {
-        Some(one) => match one.with(second) {
-            Some(two) => two,
-            None => none,
-        },
-        None => none,
+    none.with(first)
+        .and_then(|one| one.with(second))
+        .unwrap_or(none)
+}
+
+fn refusal_of(fault: Fault) -> Refusal
+    ensures { result ≡ refusal_of fault }
+{
+    Refusal {
+        layer: fault.rule.layer(),
+        byte: fault.place.byte as usize,
     }
 }
 
-fn layer_answer(layer: Layer) -> Answer
-    ensures { result ≡ answer_of layer }
+// How a text is answered.
+fn answer(text: &[u8]) -> Result<usize, Refusal>
+    ensures { result ≡ told (table_reply columns text.now) }
 {
-    match layer {
-        Layer::Heading => Answer::Heading,
-        Layer::Row => Answer::Row,
-        Layer::Cell => Answer::Cell,
-        _ => Answer::Other,
-    }
-}
-
-fn same_answer(left: Answer, right: Answer) -> bool
-    ensures { result ≡ same_answer left right }
-{
-    match (left, right) {
-        (Answer::Rows, Answer::Rows) => true,
-        (Answer::Heading, Answer::Heading) => true,
-        (Answer::Row, Answer::Row) => true,
-        (Answer::Cell, Answer::Cell) => true,
-        _ => false,
-    }
+    read_table(text, &two_columns(), b"ab").map_err(|fault| refusal_of(fault))
 }
 
 // Whether the text is answered as expected.
-pub fn holds(trial: Trial<'_>) -> bool
-    ensures { result ≡ holds trial.entry }
+fn holds(trial: Trial<'_>) -> bool
+    ensures { IsTrue result ↔ Holds trial.entry }
 {
-    match read_table(trial.text, &two_columns(), b"ab") {
-        Ok(rows) => same_answer(trial.answer, Answer::Rows) && rows == trial.number,
-        Err(fault) => same_answer(trial.answer, layer_answer(fault.rule.layer()))
-            && fault.byte as usize == trial.number,
-    }
+    answer(trial.text) == trial.expected
 }
 
 // The first trial that does not hold.
-pub fn first_wrong(trials: &[Trial<'_>]) -> Option<usize>
+fn first_wrong(trials: &[Trial<'_>]) -> Option<usize>
     ensures { FirstWrong trials.now result }
 {
-    for i in 0..trials.len() {
-        if !holds(trials[i]) {
-            return Some(i);
-        }
-    }
-    None
+    trials.iter().position(|trial| !holds(*trial))
 }
 
 #[cfg(test)]
@@ -106,333 +84,453 @@ mod tests {
         let trials = [
             Trial {
                 text: b"!a:i,b:s)\n(3,\"x\")\nend\n",
-                answer: Answer::Heading,
-                number: 0,
+                expected: Err(Refusal {
+                    layer: Layer::Heading,
+                    byte: 0,
+                }),
             },
             Trial {
                 text: b"a:i,b:s)\n(3,\"x\")\nend\n",
-                answer: Answer::Heading,
-                number: 0,
+                expected: Err(Refusal {
+                    layer: Layer::Heading,
+                    byte: 0,
+                }),
             },
             Trial {
                 text: b"((a:i,b:s)\n(3,\"x\")\nend\n",
-                answer: Answer::Heading,
-                number: 1,
+                expected: Err(Refusal {
+                    layer: Layer::Heading,
+                    byte: 1,
+                }),
             },
             Trial {
                 text: b"(!:i,b:s)\n(3,\"x\")\nend\n",
-                answer: Answer::Heading,
-                number: 1,
+                expected: Err(Refusal {
+                    layer: Layer::Heading,
+                    byte: 1,
+                }),
             },
             Trial {
                 text: b"(:i,b:s)\n(3,\"x\")\nend\n",
-                answer: Answer::Heading,
-                number: 1,
+                expected: Err(Refusal {
+                    layer: Layer::Heading,
+                    byte: 1,
+                }),
             },
             Trial {
                 text: b"(aa:i,b:s)\n(3,\"x\")\nend\n",
-                answer: Answer::Heading,
-                number: 2,
+                expected: Err(Refusal {
+                    layer: Layer::Heading,
+                    byte: 2,
+                }),
             },
             Trial {
                 text: b"(a!i,b:s)\n(3,\"x\")\nend\n",
-                answer: Answer::Heading,
-                number: 2,
+                expected: Err(Refusal {
+                    layer: Layer::Heading,
+                    byte: 2,
+                }),
             },
             Trial {
                 text: b"(ai,b:s)\n(3,\"x\")\nend\n",
-                answer: Answer::Heading,
-                number: 2,
+                expected: Err(Refusal {
+                    layer: Layer::Heading,
+                    byte: 2,
+                }),
             },
             Trial {
                 text: b"(a::i,b:s)\n(3,\"x\")\nend\n",
-                answer: Answer::Heading,
-                number: 3,
+                expected: Err(Refusal {
+                    layer: Layer::Heading,
+                    byte: 3,
+                }),
             },
             Trial {
                 text: b"(a:!,b:s)\n(3,\"x\")\nend\n",
-                answer: Answer::Heading,
-                number: 3,
+                expected: Err(Refusal {
+                    layer: Layer::Heading,
+                    byte: 3,
+                }),
             },
             Trial {
                 text: b"(a:,b:s)\n(3,\"x\")\nend\n",
-                answer: Answer::Heading,
-                number: 3,
+                expected: Err(Refusal {
+                    layer: Layer::Heading,
+                    byte: 3,
+                }),
             },
             Trial {
                 text: b"(a:ii,b:s)\n(3,\"x\")\nend\n",
-                answer: Answer::Heading,
-                number: 4,
+                expected: Err(Refusal {
+                    layer: Layer::Heading,
+                    byte: 4,
+                }),
             },
             Trial {
                 text: b"(a:i!b:s)\n(3,\"x\")\nend\n",
-                answer: Answer::Heading,
-                number: 4,
+                expected: Err(Refusal {
+                    layer: Layer::Heading,
+                    byte: 4,
+                }),
             },
             Trial {
                 text: b"(a:ib:s)\n(3,\"x\")\nend\n",
-                answer: Answer::Heading,
-                number: 4,
+                expected: Err(Refusal {
+                    layer: Layer::Heading,
+                    byte: 4,
+                }),
             },
             Trial {
                 text: b"(a:i,,b:s)\n(3,\"x\")\nend\n",
-                answer: Answer::Heading,
-                number: 5,
+                expected: Err(Refusal {
+                    layer: Layer::Heading,
+                    byte: 5,
+                }),
             },
             Trial {
                 text: b"(a:i,!:s)\n(3,\"x\")\nend\n",
-                answer: Answer::Heading,
-                number: 5,
+                expected: Err(Refusal {
+                    layer: Layer::Heading,
+                    byte: 5,
+                }),
             },
             Trial {
                 text: b"(a:i,:s)\n(3,\"x\")\nend\n",
-                answer: Answer::Heading,
-                number: 5,
+                expected: Err(Refusal {
+                    layer: Layer::Heading,
+                    byte: 5,
+                }),
             },
             Trial {
                 text: b"(a:i,bb:s)\n(3,\"x\")\nend\n",
-                answer: Answer::Heading,
-                number: 6,
+                expected: Err(Refusal {
+                    layer: Layer::Heading,
+                    byte: 6,
+                }),
             },
             Trial {
                 text: b"(a:i,b!s)\n(3,\"x\")\nend\n",
-                answer: Answer::Heading,
-                number: 6,
+                expected: Err(Refusal {
+                    layer: Layer::Heading,
+                    byte: 6,
+                }),
             },
             Trial {
                 text: b"(a:i,bs)\n(3,\"x\")\nend\n",
-                answer: Answer::Heading,
-                number: 6,
+                expected: Err(Refusal {
+                    layer: Layer::Heading,
+                    byte: 6,
+                }),
             },
             Trial {
                 text: b"(a:i,b::s)\n(3,\"x\")\nend\n",
-                answer: Answer::Heading,
-                number: 7,
+                expected: Err(Refusal {
+                    layer: Layer::Heading,
+                    byte: 7,
+                }),
             },
             Trial {
                 text: b"(a:i,b:!)\n(3,\"x\")\nend\n",
-                answer: Answer::Heading,
-                number: 7,
+                expected: Err(Refusal {
+                    layer: Layer::Heading,
+                    byte: 7,
+                }),
             },
             Trial {
                 text: b"(a:i,b:)\n(3,\"x\")\nend\n",
-                answer: Answer::Heading,
-                number: 7,
+                expected: Err(Refusal {
+                    layer: Layer::Heading,
+                    byte: 7,
+                }),
             },
             Trial {
                 text: b"(a:i,b:ss)\n(3,\"x\")\nend\n",
-                answer: Answer::Heading,
-                number: 8,
+                expected: Err(Refusal {
+                    layer: Layer::Heading,
+                    byte: 8,
+                }),
             },
             Trial {
                 text: b"(a:i,b:s!\n(3,\"x\")\nend\n",
-                answer: Answer::Heading,
-                number: 8,
+                expected: Err(Refusal {
+                    layer: Layer::Heading,
+                    byte: 8,
+                }),
             },
             Trial {
                 text: b"(a:i,b:s\n(3,\"x\")\nend\n",
-                answer: Answer::Heading,
-                number: 8,
+                expected: Err(Refusal {
+                    layer: Layer::Heading,
+                    byte: 8,
+                }),
             },
             Trial {
                 text: b"(a:i,b:s))\n(3,\"x\")\nend\n",
-                answer: Answer::Heading,
-                number: 9,
+                expected: Err(Refusal {
+                    layer: Layer::Heading,
+                    byte: 9,
+                }),
             },
             Trial {
                 text: b"(a:i,b:s)!(3,\"x\")\nend\n",
-                answer: Answer::Heading,
-                number: 9,
+                expected: Err(Refusal {
+                    layer: Layer::Heading,
+                    byte: 9,
+                }),
             },
             Trial {
                 text: b"(a:i,b:s)(3,\"x\")\nend\n",
-                answer: Answer::Heading,
-                number: 9,
+                expected: Err(Refusal {
+                    layer: Layer::Heading,
+                    byte: 9,
+                }),
             },
             Trial {
                 text: b"(a:i,b:s)\n\n(3,\"x\")\nend\n",
-                answer: Answer::Row,
-                number: 10,
+                expected: Err(Refusal {
+                    layer: Layer::Row,
+                    byte: 10,
+                }),
             },
             Trial {
                 text: b"(a:i,b:s)\n!3,\"x\")\nend\n",
-                answer: Answer::Row,
-                number: 10,
+                expected: Err(Refusal {
+                    layer: Layer::Row,
+                    byte: 10,
+                }),
             },
             Trial {
                 text: b"(a:i,b:s)\n3,\"x\")\nend\n",
-                answer: Answer::Row,
-                number: 10,
+                expected: Err(Refusal {
+                    layer: Layer::Row,
+                    byte: 10,
+                }),
             },
             Trial {
                 text: b"(a:i,b:s)\n((3,\"x\")\nend\n",
-                answer: Answer::Cell,
-                number: 11,
+                expected: Err(Refusal {
+                    layer: Layer::Cell,
+                    byte: 11,
+                }),
             },
             Trial {
                 text: b"(a:i,b:s)\n(!,\"x\")\nend\n",
-                answer: Answer::Cell,
-                number: 11,
+                expected: Err(Refusal {
+                    layer: Layer::Cell,
+                    byte: 11,
+                }),
             },
             Trial {
                 text: b"(a:i,b:s)\n(,\"x\")\nend\n",
-                answer: Answer::Cell,
-                number: 11,
+                expected: Err(Refusal {
+                    layer: Layer::Cell,
+                    byte: 11,
+                }),
             },
             Trial {
                 text: b"(a:i,b:s)\n(33,\"x\")\nend\n",
-                answer: Answer::Rows,
-                number: 1,
+                expected: Ok(1),
             },
             Trial {
                 text: b"(a:i,b:s)\n(3!\"x\")\nend\n",
-                answer: Answer::Row,
-                number: 12,
+                expected: Err(Refusal {
+                    layer: Layer::Row,
+                    byte: 12,
+                }),
             },
             Trial {
                 text: b"(a:i,b:s)\n(3\"x\")\nend\n",
-                answer: Answer::Row,
-                number: 12,
+                expected: Err(Refusal {
+                    layer: Layer::Row,
+                    byte: 12,
+                }),
             },
             Trial {
                 text: b"(a:i,b:s)\n(3,,\"x\")\nend\n",
-                answer: Answer::Cell,
-                number: 13,
+                expected: Err(Refusal {
+                    layer: Layer::Cell,
+                    byte: 13,
+                }),
             },
             Trial {
                 text: b"(a:i,b:s)\n(3,!x\")\nend\n",
-                answer: Answer::Cell,
-                number: 13,
+                expected: Err(Refusal {
+                    layer: Layer::Cell,
+                    byte: 13,
+                }),
             },
             Trial {
                 text: b"(a:i,b:s)\n(3,x\")\nend\n",
-                answer: Answer::Cell,
-                number: 13,
+                expected: Err(Refusal {
+                    layer: Layer::Cell,
+                    byte: 13,
+                }),
             },
             Trial {
                 text: b"(a:i,b:s)\n(3,\"\"x\")\nend\n",
-                answer: Answer::Row,
-                number: 15,
+                expected: Err(Refusal {
+                    layer: Layer::Row,
+                    byte: 15,
+                }),
             },
             Trial {
                 text: b"(a:i,b:s)\n(3,\"!\")\nend\n",
-                answer: Answer::Rows,
-                number: 1,
+                expected: Ok(1),
             },
             Trial {
                 text: b"(a:i,b:s)\n(3,\"\")\nend\n",
-                answer: Answer::Rows,
-                number: 1,
+                expected: Ok(1),
             },
             Trial {
                 text: b"(a:i,b:s)\n(3,\"xx\")\nend\n",
-                answer: Answer::Rows,
-                number: 1,
+                expected: Ok(1),
             },
             Trial {
                 text: b"(a:i,b:s)\n(3,\"x!)\nend\n",
-                answer: Answer::Cell,
-                number: 17,
+                expected: Err(Refusal {
+                    layer: Layer::Cell,
+                    byte: 17,
+                }),
             },
             Trial {
                 text: b"(a:i,b:s)\n(3,\"x)\nend\n",
-                answer: Answer::Cell,
-                number: 16,
+                expected: Err(Refusal {
+                    layer: Layer::Cell,
+                    byte: 16,
+                }),
             },
             Trial {
                 text: b"(a:i,b:s)\n(3,\"x\"\")\nend\n",
-                answer: Answer::Row,
-                number: 16,
+                expected: Err(Refusal {
+                    layer: Layer::Row,
+                    byte: 16,
+                }),
             },
             Trial {
                 text: b"(a:i,b:s)\n(3,\"x\"!\nend\n",
-                answer: Answer::Row,
-                number: 16,
+                expected: Err(Refusal {
+                    layer: Layer::Row,
+                    byte: 16,
+                }),
             },
             Trial {
                 text: b"(a:i,b:s)\n(3,\"x\"\nend\n",
-                answer: Answer::Row,
-                number: 16,
+                expected: Err(Refusal {
+                    layer: Layer::Row,
+                    byte: 16,
+                }),
             },
             Trial {
                 text: b"(a:i,b:s)\n(3,\"x\"))\nend\n",
-                answer: Answer::Row,
-                number: 17,
+                expected: Err(Refusal {
+                    layer: Layer::Row,
+                    byte: 17,
+                }),
             },
             Trial {
                 text: b"(a:i,b:s)\n(3,\"x\")!end\n",
-                answer: Answer::Row,
-                number: 17,
+                expected: Err(Refusal {
+                    layer: Layer::Row,
+                    byte: 17,
+                }),
             },
             Trial {
                 text: b"(a:i,b:s)\n(3,\"x\")end\n",
-                answer: Answer::Row,
-                number: 17,
+                expected: Err(Refusal {
+                    layer: Layer::Row,
+                    byte: 17,
+                }),
             },
             Trial {
                 text: b"(a:i,b:s)\n(3,\"x\")\n\nend\n",
-                answer: Answer::Row,
-                number: 18,
+                expected: Err(Refusal {
+                    layer: Layer::Row,
+                    byte: 18,
+                }),
             },
             Trial {
                 text: b"(a:i,b:s)\n(3,\"x\")\n!nd\n",
-                answer: Answer::Row,
-                number: 18,
+                expected: Err(Refusal {
+                    layer: Layer::Row,
+                    byte: 18,
+                }),
             },
             Trial {
                 text: b"(a:i,b:s)\n(3,\"x\")\nnd\n",
-                answer: Answer::Row,
-                number: 18,
+                expected: Err(Refusal {
+                    layer: Layer::Row,
+                    byte: 18,
+                }),
             },
             Trial {
                 text: b"(a:i,b:s)\n(3,\"x\")\neend\n",
-                answer: Answer::Row,
-                number: 19,
+                expected: Err(Refusal {
+                    layer: Layer::Row,
+                    byte: 19,
+                }),
             },
             Trial {
                 text: b"(a:i,b:s)\n(3,\"x\")\ne!d\n",
-                answer: Answer::Row,
-                number: 19,
+                expected: Err(Refusal {
+                    layer: Layer::Row,
+                    byte: 19,
+                }),
             },
             Trial {
                 text: b"(a:i,b:s)\n(3,\"x\")\ned\n",
-                answer: Answer::Row,
-                number: 19,
+                expected: Err(Refusal {
+                    layer: Layer::Row,
+                    byte: 19,
+                }),
             },
             Trial {
                 text: b"(a:i,b:s)\n(3,\"x\")\nennd\n",
-                answer: Answer::Row,
-                number: 20,
+                expected: Err(Refusal {
+                    layer: Layer::Row,
+                    byte: 20,
+                }),
             },
             Trial {
                 text: b"(a:i,b:s)\n(3,\"x\")\nen!\n",
-                answer: Answer::Row,
-                number: 20,
+                expected: Err(Refusal {
+                    layer: Layer::Row,
+                    byte: 20,
+                }),
             },
             Trial {
                 text: b"(a:i,b:s)\n(3,\"x\")\nen\n",
-                answer: Answer::Row,
-                number: 20,
+                expected: Err(Refusal {
+                    layer: Layer::Row,
+                    byte: 20,
+                }),
             },
             Trial {
                 text: b"(a:i,b:s)\n(3,\"x\")\nendd\n",
-                answer: Answer::Row,
-                number: 21,
+                expected: Err(Refusal {
+                    layer: Layer::Row,
+                    byte: 21,
+                }),
             },
             Trial {
                 text: b"(a:i,b:s)\n(3,\"x\")\nend!",
-                answer: Answer::Row,
-                number: 21,
+                expected: Err(Refusal {
+                    layer: Layer::Row,
+                    byte: 21,
+                }),
             },
             Trial {
                 text: b"(a:i,b:s)\n(3,\"x\")\nend",
-                answer: Answer::Row,
-                number: 21,
+                expected: Err(Refusal {
+                    layer: Layer::Row,
+                    byte: 21,
+                }),
             },
             Trial {
                 text: b"(a:i,b:s)\n(3,\"x\")\nend\n\n",
-                answer: Answer::Row,
-                number: 22,
+                expected: Err(Refusal {
+                    layer: Layer::Row,
+                    byte: 22,
+                }),
             },
         ];
         assert_eq!(rt; first_wrong(&trials), None);
@@ -443,78 +541,96 @@ mod tests {
         let trials = [
             Trial {
                 text: b"",
-                answer: Answer::Heading,
-                number: 0,
+                expected: Err(Refusal {
+                    layer: Layer::Heading,
+                    byte: 0,
+                }),
             },
             Trial {
                 text: b"(a:i,b:s)",
-                answer: Answer::Heading,
-                number: 9,
+                expected: Err(Refusal {
+                    layer: Layer::Heading,
+                    byte: 9,
+                }),
             },
             Trial {
                 text: b"(a:i,b:s)\r\nend\n",
-                answer: Answer::Heading,
-                number: 9,
+                expected: Err(Refusal {
+                    layer: Layer::Heading,
+                    byte: 9,
+                }),
             },
             Trial {
                 text: b"(?:i,?:s)\nend\n",
-                answer: Answer::Rows,
-                number: 0,
+                expected: Ok(0),
             },
             Trial {
                 text: b"(a:i,b:s)\n(-9223372036854775808,\"\")\nend\n",
-                answer: Answer::Rows,
-                number: 1,
+                expected: Ok(1),
             },
             Trial {
                 text: b"(a:i,b:s)\n(-9223372036854775809,\"\")\nend\n",
-                answer: Answer::Cell,
-                number: 30,
+                expected: Err(Refusal {
+                    layer: Layer::Cell,
+                    byte: 30,
+                }),
             },
             Trial {
                 text: b"(a:i,b:s)\n(9223372036854775807,\"\")\nend\n",
-                answer: Answer::Rows,
-                number: 1,
+                expected: Ok(1),
             },
             Trial {
                 text: b"(a:i,b:s)\n(9223372036854775808,\"\")\nend\n",
-                answer: Answer::Cell,
-                number: 29,
+                expected: Err(Refusal {
+                    layer: Layer::Cell,
+                    byte: 29,
+                }),
             },
             Trial {
                 text: b"(a:i,b:s)\n(-0,\"\")\nend\n",
-                answer: Answer::Cell,
-                number: 12,
+                expected: Err(Refusal {
+                    layer: Layer::Cell,
+                    byte: 12,
+                }),
             },
             Trial {
                 text: b"(a:i,b:s)\n(01,\"\")\nend\n",
-                answer: Answer::Cell,
-                number: 12,
+                expected: Err(Refusal {
+                    layer: Layer::Cell,
+                    byte: 12,
+                }),
             },
             Trial {
                 text: b"(a:i,b:s)\n(0,\"\")\n(0,\"\")\nend\n",
-                answer: Answer::Rows,
-                number: 2,
+                expected: Ok(2),
             },
             Trial {
                 text: b"(a:i,b:s)\nend",
-                answer: Answer::Row,
-                number: 13,
+                expected: Err(Refusal {
+                    layer: Layer::Row,
+                    byte: 13,
+                }),
             },
             Trial {
                 text: b"(a:i,b:s)\nend\n\n",
-                answer: Answer::Row,
-                number: 14,
+                expected: Err(Refusal {
+                    layer: Layer::Row,
+                    byte: 14,
+                }),
             },
             Trial {
                 text: b"(a:i,b:s)\n(1,\"a\tb\")\nend\n",
-                answer: Answer::Cell,
-                number: 15,
+                expected: Err(Refusal {
+                    layer: Layer::Cell,
+                    byte: 15,
+                }),
             },
             Trial {
                 text: b"(a:i,b:s)\n(+1,\"\")\nend\n",
-                answer: Answer::Cell,
-                number: 11,
+                expected: Err(Refusal {
+                    layer: Layer::Cell,
+                    byte: 11,
+                }),
             },
         ];
         assert_eq!(rt; first_wrong(&trials), None);

@@ -1,6 +1,7 @@
 -- Rows into a store's last table.
-use Rattle.std.proofs.Common.{◌≡◌, ℕ, ◌-◌, ◌<◌, ◌≤◌, Bool, true, false, cond, ◌||◌, List, [], ◌∷◌, map, length, get_or, take, set, ℤ, Ok, Err, sym, refl, ap, ◌∙◌, ap₂, arith}
+use Rattle.std.proofs.Common.{◌≡◌, ℕ, ◌-◌, ◌<◌, ◌≤◌, Bool, true, false, cond, ◌||◌, List, [], ◌∷◌, map, length, get_or, take, set, ℤ, Ok, Err, Result, sym, refl, ap, ◌∙◌, ap₂, true≢false, arith}
 use Rattle.std.proofs.lemmas.List.{take_all, take-map, length-take, length-set, get_or-set_same}
+use Rattle.std.specs.Result.{IsErr, is_ok}
 use Rattle.fault.specs.declared.rules.Rule.TheVariants.{NoCellsLeft, NoSuchPlace}
 use Rattle.domain.specs.declared.Domain.{Domain}
 use Rattle.store.specs.Meaning.{Row, Table, Store, last_place, last_table, with_tables, has, inserted, has_table, row_for, repeats, fits, add_reply, added, accepted, add_after, no_table, refused_by}
@@ -19,6 +20,11 @@ pub record Left (ds : List Domain) (strings : List (List ℕ)) (s q : List ℕ) 
   pub reads : read_body ds s ≡ taken rows q
   pub adds : add_all store (cell_rows strings rows) ≡ x
   pub width : (last_table store).width ≡ w
+
+-- an answer that is a refusal is not fine
+pub refused_is : {A E : Type 0} (r : Result A E) → IsErr r → is_ok r ≡ false
+refused_is (Ok a) h = absurd (true≢false (sym h))
+refused_is (Err e) h = refl
 
 -- A store is asked by the first cells of a row alone.
 

@@ -1,5 +1,5 @@
 -- Taking the rows of a right text: opened, filled, and then settled or dropped.
-use Rattle.std.proofs.Common.{◌≡◌, ℕ, ◌≤◌, Bool, true, false, cond, List, [], map, length, take, drop, Ok, Err, Result, sym, ap, ◌∙◌, subst, ap₂, zero-mul, arith}
+use Rattle.std.proofs.Common.{◌≡◌, ℕ, ◌≤◌, true, false, cond, List, [], map, length, take, drop, Ok, Err, Result, sym, ap, ◌∙◌, subst, ap₂, zero-mul, arith}
 use Rattle.std.proofs.lemmas.List.{take_all}
 use Rattle.fault.specs.declared.rules.Fault.{Fault}
 use Rattle.fault.specs.declared.rules.Rule.TheVariants.{TooManyRows}
@@ -24,10 +24,6 @@ told (Err f) = ⊥
 
 pub err_not_ok : {A : Type 0} (f : Fault) (a : A) → ◌≡◌ {A = Result A Fault} (Err f) (Ok a) → ⊥
 err_not_ok f a e = subst told (sym e) tt
-
-abbrev pub truth_of : Bool → Result Bool Fault → Bool
-truth_of d (Ok b) = b
-truth_of d (Err f) = d
 
 -- a new reader stands at the start of the text
 pub starts : (r : Reader) (text : List ℕ) → length text ≤ text_bytes → r.text.now ≡ take text_bytes text → r.at ≡ 0 → rest r ≡ text

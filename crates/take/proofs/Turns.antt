@@ -1,5 +1,5 @@
 -- The two passages over a text, row by row.
-use Rattle.std.proofs.Common.{◌≡◌, ℕ, ◌-◌, true, false, List, [], ◌∷◌, map, take, Ok, Err, Result, sym, refl, ap, ◌∙◌, subst, ap₂, arith}
+use Rattle.std.proofs.Common.{◌≡◌, ℕ, true, false, List, [], ◌∷◌, map, take, Ok, Err, Result, sym, refl, ap, ◌∙◌, subst, ap₂}
 use Rattle.domain.specs.declared.Domain.{Domain}
 use Rattle.fault.specs.declared.rules.Rule.{Rule}
 use Rattle.fault.specs.declared.rules.Rule.TheVariants.{WrongRow}
@@ -42,8 +42,8 @@ module _ (ds : List Domain) (known : List (List ℕ)) (l : Learned) (s : List �
       go (refused rule r) = refl
 
 -- the cells that are learned are the row's values
-pub row_values : (text u : List ℕ) (cells : List Cell) (w n : ℕ) → u ≡ text → w ≡ n → map (value_in text) (take (w - 0) cells) ≡ values_in n u cells
-row_values text u cells w n e h = let same : w - 0 ≡ n = omega (arith, h) in ap₂ (λ t k. map (value_in t) (take k cells)) (sym e) same
+pub row_values : (text u : List ℕ) (cells : List Cell) (w n : ℕ) → u ≡ text → w ≡ n → map (value_in text) (take w cells) ≡ values_in n u cells
+row_values text u cells w n e h = ap₂ (λ t k. map (value_in t) (take k cells)) (sym e) h
 
 -- the end of a text, as what was learned
 pub seen_end : (text : List ℕ) (fresh : Fresh) (s : Reader) (r : Result (Unit {0}) Fault) (x : Reading (Unit {0})) → seen s r ≡ x →

@@ -1,9 +1,10 @@
 -- What a supplied text comes to: its rows as cells, no row twice, in the place of the variable's old rows.
-use Rattle.std.specs.Prelude.{ℕ, ◌-◌, ◌*◌, Bool, true, false, cond, ◌&&◌, List, [], ◌∷◌, ◌++◌, map, length, Ok, Err, Result, ◌==◌, nat_le, nat_lt, slice_set}
+use Rattle.std.specs.Prelude.{ℕ, ◌-◌, ◌*◌, Bool, true, false, cond, ◌&&◌, List, [], ◌∷◌, ◌++◌, map, length, Ok, Err, Result, ◌==◌, nat_le, nat_lt, slice_set, is_none}
 use Rattle.fault.specs.declared.rules.Fault.{Fault}
 use Rattle.fault.specs.declared.rules.Rule.{Rule}
 use Rattle.fault.specs.declared.rules.Rule.TheVariants.{Disorder, TooManyRows, TooManyStrings}
 use Rattle.fault.specs.Limits.{tables, text_bytes}
+use Rattle.fault.specs.Places.{nowhere}
 use Rattle.store.specs.Meaning.{Row, Table, Store, table_count, table_at, cells_left, with_tables, insert, good_width, added, add_reply, accepted}
 use Rattle.schema.specs.Columns.{Column}
 use Rattle.texts.specs.Language.{Value}
@@ -34,7 +35,7 @@ replaced s n t = with_tables s (slice_set s.tables n t)
 
 -- 53 and 54 speak of the whole text
 abbrev pub of_supply : Rule → Fault
-of_supply rule = record { rule = rule; line = 1; byte = 0 }
+of_supply rule = record { rule = rule; place = record { line = 1; byte = 0 } }
 
 -- what the store has to be: a table of this place and width, and a place for one table more of it
 abbrev pub ready : Store → ℕ → ℕ → Bool
@@ -42,7 +43,7 @@ ready s n width = nat_lt n (table_count s) && ((table_at s n).width == width && 
 
 -- anything else is out of order
 abbrev pub disorder : Fault
-disorder = record { rule = Disorder; line = 0; byte = 0 }
+disorder = record { rule = Disorder; place = nowhere }
 
 -- the different rows against the cells left, the old ones still counted
 abbrev pub fits_reply : List Row → ℕ → Store → Result (Unit {0}) Fault
@@ -53,7 +54,7 @@ fits_after rows width n s = cond (nat_le (length rows * width) (cells_left s)) (
 
 -- strings first, then rows
 abbrev pub rows_reply : Learned → List Row → ℕ → Store → Result (Unit {0}) Fault
-rows_reply l rows width s = cond l.over (Err (of_supply TooManyStrings)) (fits_reply rows width s)
+rows_reply l rows width s = cond (is_none l.room) (Err (of_supply TooManyStrings)) (fits_reply rows width s)
 
 -- Rows added one after the other, up to one that is refused.
 pub record Filled : Type 0 where
@@ -92,7 +93,7 @@ take_reply cs text known l n width s =
 abbrev pub read_after : List (List ℕ) → Learned → ℕ → ℕ → Store → Reading (List (List Value)) → Store
 read_after known l n width s (refused rule r) = s
 read_after known l n width s (taken rows r) =
-    cond (learn_rows known l rows).over s (fits_after (table_rows known (learn_rows known l rows) rows) width n s)
+    cond (is_none (learn_rows known l rows).room) s (fits_after (table_rows known (learn_rows known l rows) rows) width n s)
 
 abbrev pub take_after : List Column → List ℕ → List (List ℕ) → Learned → ℕ → ℕ → Store → Store
 take_after cs text known l n width s =

@@ -4,6 +4,8 @@
 
 mod filling;
 mod learning;
+pub mod supply;
 pub mod taking;
 
+pub use supply::Supply;
 pub use taking::{Used, take_table};

@@ -1,69 +1,52 @@
 // The whole of it: a text into a table.
-ghost use Rattle.std.specs.Prelude.{◌≡◌, ◌≤◌, true, List, [], length};
+ghost use Rattle.std.specs.Prelude.{◌≡◌, ◌≤◌, length};
 ghost use Rattle.fault.specs.Limits.{text_bytes};
-ghost use Rattle.schema.specs.Columns.{schema_of, held};
-ghost use Rattle.texts.specs.Language.{Value};
-ghost use Rattle.texts.specs.Readers.{Reading.taken};
-ghost use Rattle.texts.specs.Reading.{read_table};
-ghost use Rattle.pool.specs.Strings.{numbered};
-ghost use Rattle.pool.specs.Learning.{learned_of, nothing_learned};
-ghost use Rattle.take.specs.Taking.{table_rows, fits_reply, fits_after, ready, of_supply, learned_reply, take_reply, take_after};
+ghost use Rattle.pool.specs.Learning.{nothing_learned};
+ghost use Rattle.take.specs.Taking.{ready, of_supply, learned_reply, take_reply, take_after};
+ghost use Rattle.take.specs.Supplies.{text_of, columns_of, width_of, known_of, TakesRows};
 
-use crate::filling::fill_rows;
-use crate::learning::learn_text;
+use crate::supply::Supply;
 use fault::limits::{TABLES, TEXT_BYTES};
-use fault::{Fault, Rule};
+use fault::{Fault, Place, Rule};
 use listing::Reader;
 use listing::whole::too_long;
-use pool::{Fresh, Known};
-use schema::Schema;
+use pool::Fresh;
 use store::RowStore;
 
 // A refusal that speaks of the whole text.
 fn of_supply(rule: Rule) -> Fault
     ensures { result ≡ of_supply rule }
 {
-    Fault {
-        rule,
-        line: 1,
-        byte: 0,
-    }
+    Place { line: 1, byte: 0 }.fault(rule)
 }
 
-// Whether the store has this table, as wide as the schema, which has a column at least, and a place for one table more.
-fn is_ready<S: RowStore>(store: &S, schema: &Schema, table: u16) -> bool
-    ensures { result ≡ ready (S.RowStore.meaning store.now) table (length (held schema.now)) }
-{
-    match store.width(table) {
-        Ok(width) => width as usize == schema.width()
-            && schema.width() > 0
-            && (store.table_count() as usize) < TABLES,
-        Err(_) => false,
+impl<'a> Supply<'a> {
+    // Whether the store has this table, as wide as the schema, which has a column at least, and a place for one table more.
+    fn is_ready<S: RowStore>(self, store: &S, table: u16) -> bool
+        ensures { result ≡ ready (S.RowStore.meaning store.now) table (width_of self.entry) }
+    {
+        match store.width(table) {
+            Ok(width) => width as usize == self.schema.width()
+                && self.schema.width() > 0
+                && (store.table_count() as usize) < TABLES,
+            Err(_) => false,
+        }
     }
-}
 
-// The rows of a right text: in the place of the table's old rows if there are cells for them beside the old ones, else nothing changes.
-pub(crate) fn take_rows<S: RowStore>(
-    text: &[u8],
-    schema: &Schema,
-    script: &[u8],
-    known: Known<'_>,
-    fresh: &Fresh,
-    store: &mut S,
-    table: u16,
-) -> Result<(), Fault>
-    requires short { length text.now ≤ text_bytes }
-    ensures reply { (rows : List (List Value)) → read_table (schema_of script.now schema.now) text.now ≡ taken rows [] → ready (S.RowStore.meaning store.old) table (length (held schema.now)) ≡ true → result ≡ fits_reply (table_rows (numbered known.entry) (learned_of text.now fresh.now) rows) (length (held schema.now)) (S.RowStore.meaning store.old) }
-    ensures after { (rows : List (List Value)) → read_table (schema_of script.now schema.now) text.now ≡ taken rows [] → ready (S.RowStore.meaning store.old) table (length (held schema.now)) ≡ true → S.RowStore.meaning store.new ≡ fits_after (table_rows (numbered known.entry) (learned_of text.now fresh.now) rows) (length (held schema.now)) table (S.RowStore.meaning store.old) }
-{
-    store.open(schema.width() as u16)?;
-    let mut reader = Reader::new(text);
-    reader.heading(schema, script)?;
-    if fill_rows(&mut reader, schema, known, text, fresh, store)? {
-        return store.settle(table);
+    // The rows of a right text: in the place of the table's old rows if there are cells for them beside the old ones, else nothing changes.
+    fn take_rows<S: RowStore>(self, fresh: &Fresh, store: &mut S, table: u16) -> Result<(), Fault>
+        requires { length (text_of self) ≤ text_bytes }
+        ensures { TakesRows self.entry fresh.now table (S.RowStore.meaning store.old) (S.RowStore.meaning store.new) result }
+    {
+        store.open(self.schema.width() as u16)?;
+        let mut reader = Reader::new(self.source.text);
+        reader.heading(self.schema, self.script)?;
+        if self.fill_rows(&mut reader, fresh, store).is_ok() {
+            return store.settle(table);
+        }
+        store.drop_last()?;
+        Err(of_supply(Rule::TooManyRows))
     }
-    store.drop_last()?;
-    Err(of_supply(Rule::TooManyRows))
 }
 
 // The strings that were read before a text: how many, and their bytes together.
@@ -78,32 +61,25 @@ pub struct Used {
 // Refusals in this order: the text is too long; the store has no such table or no place for one more; the text is not right;
 // it brings too many strings; its different rows need more cells than are left beside the old ones.
 pub fn take_table<S: RowStore>(
-    text: &[u8],
-    schema: &Schema,
-    script: &[u8],
-    known: Known<'_>,
+    supply: Supply<'_>,
     used: Used,
     store: &mut S,
     table: u16,
 ) -> Result<Fresh, Fault>
-    ensures reply { learned_reply text.now result ≡ take_reply (schema_of script.now schema.now) text.now (numbered known.entry) (nothing_learned used.strings used.bytes) table (length (held schema.now)) (S.RowStore.meaning store.old) }
-    ensures after { S.RowStore.meaning store.new ≡ take_after (schema_of script.now schema.now) text.now (numbered known.entry) (nothing_learned used.strings used.bytes) table (length (held schema.now)) (S.RowStore.meaning store.old) }
+    ensures reply { learned_reply (text_of supply.entry) result ≡ take_reply (columns_of supply.entry) (text_of supply.entry) (known_of supply.entry) (nothing_learned used.strings used.bytes) table (width_of supply.entry) (S.RowStore.meaning store.old) }
+    ensures after { S.RowStore.meaning store.new ≡ take_after (columns_of supply.entry) (text_of supply.entry) (known_of supply.entry) (nothing_learned used.strings used.bytes) table (width_of supply.entry) (S.RowStore.meaning store.old) }
 {
-    if text.len() > TEXT_BYTES {
+    if supply.source.text.len() > TEXT_BYTES {
         return Err(too_long());
     }
-    if !is_ready(store, schema, table) {
-        return Err(Fault {
-            rule: Rule::Disorder,
-            line: 0,
-            byte: 0,
-        });
+    if !supply.is_ready(store, table) {
+        return Err(Place::NOWHERE.fault(Rule::Disorder));
     }
     let mut fresh = Fresh::new(used.strings, used.bytes);
-    learn_text(text, schema, script, known, &mut fresh)?;
+    supply.learn_text(&mut fresh)?;
     if fresh.is_over() {
         return Err(of_supply(Rule::TooManyStrings));
     }
-    take_rows(text, schema, script, known, &fresh, store, table)?;
+    supply.take_rows(&fresh, store, table)?;
     Ok(fresh)
 }
