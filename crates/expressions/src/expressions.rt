@@ -19,7 +19,7 @@ use fault::{Fault, Rule};
 use phrases::Parser;
 use phrases::leaves::leaf;
 use phrases::lists::list;
-use phrases::sorts::{Leaf, Listed, Wanted};
+use phrases::sorts::{Leaf, Wanted};
 use tree::What;
 use words::Sign;
 
@@ -198,7 +198,7 @@ fn inside(parser: &mut Parser<'_>, depth: u8, operator: Unary) -> Result<u16, Fa
     ensures answer { Follows (Inside (argument_of (unary_of operator))) (inside_reader depth (argument_of (unary_of operator))) parser.old parser.new result }
 {
     match operator.bracketed() {
-        Bracketed::Names => list(parser, Listed::Names),
+        Bracketed::Names => list(parser, |parser| leaf(parser, Leaf::Name)),
         Bracketed::Condition => expr(parser, depth),
         Bracketed::Update => assigned(parser, depth),
         Bracketed::Extend => extended(parser, depth),

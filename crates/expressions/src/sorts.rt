@@ -1,9 +1,8 @@
 // What a token is where an expression goes on or a factor begins.
 ghost use Rattle.std.specs.Prelude.{◌≡◌, ◌<◌};
 ghost use Rattle.words.specs.Views.{spoken};
-ghost use Rattle.expressions.specs.Starts.{start_in, turn_in, level_behind, operator_node, unary_node, negation_node, listed_of, table_node, bracketed_of};
+ghost use Rattle.expressions.specs.Starts.{start_in, turn_in, level_behind, operator_node, unary_node, negation_node, table_node, bracketed_of};
 
-use phrases::sorts::Listed;
 use tree::What;
 use words::{Comparison, Logic, Product, Sign, Sum, Token, Word};
 
@@ -180,15 +179,6 @@ pub enum Instance {
 }
 
 impl Instance {
-    pub fn listed(self) -> Listed
-        ensures { result ≡ listed_of self }
-    {
-        match self {
-            Instance::Tuples => Listed::Tuples,
-            Instance::Types => Listed::Types,
-        }
-    }
-
     // The node by the entry of the first element.
     pub fn node(self, first: u16) -> What
         ensures { result ≡ table_node self first }

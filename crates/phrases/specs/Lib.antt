@@ -3,3 +3,4 @@ pub mod States
 pub mod Leaves
 pub mod Held
 pub mod Sorts
+pub mod Elements

@@ -4,13 +4,14 @@ ghost use Rattle.grammar.specs.Parts.{Level.attribute_level, Level.tuple_level};
 ghost use Rattle.grammar.specs.Promise.{any_token};
 ghost use Rattle.grammar.specs.Readers.{read_level, rest, read_attribute, read_tuple, brackets_at};
 ghost use Rattle.phrases.specs.Held.{Held};
-ghost use Rattle.phrases.specs.Sorts.{level_of, item_reader, relinked};
+ghost use Rattle.phrases.specs.Sorts.{Listed, level_of, item_reader, relinked};
+ghost use Rattle.phrases.specs.Elements.{Moves, Reads};
 ghost use Rattle.phrases.specs.States.{SameArena, Numbers, NumbersOn, Follows, GoesOn};
 ghost use Rattle.tree.specs.Holds.{node_at};
 
 use crate::leaves::leaf;
 use crate::parsers::Parser;
-use crate::sorts::{Leaf, Listed, Wanted};
+use crate::sorts::{Leaf, Wanted};
 use fault::Fault;
 use tree::{Node, What};
 use words::Sign;
@@ -24,7 +25,7 @@ pub fn link(nodes: &mut [Node], last: u16, next: u16)
 }
 
 // attr-decl → atomic-type id
-fn attr_decl(parser: &mut Parser<'_>) -> Result<u16, Fault>
+pub fn attr_decl(parser: &mut Parser<'_>) -> Result<u16, Fault>
     ensures lent { SameArena parser.old parser.new }
     ensures numbers { OnOk result (Numbers parser.old parser.new) }
     ensures answer { Follows (Held attribute_level) read_attribute parser.old parser.new result }
@@ -36,59 +37,52 @@ fn attr_decl(parser: &mut Parser<'_>) -> Result<u16, Fault>
 }
 
 // tuple-const → ( atomic-const { , atomic-const } )
-#[cycle(lists)]
-fn tuple_const(parser: &mut Parser<'_>) -> Result<u16, Fault>
+pub fn tuple_const(parser: &mut Parser<'_>) -> Result<u16, Fault>
     ensures lent { SameArena parser.old parser.new }
     ensures numbers { OnOk result (Numbers parser.old parser.new) }
     ensures answer { (n : ℕ) → Follows (Held tuple_level) (read_tuple (brackets_at any_token n)) parser.old parser.new result }
 {
     let at = parser.ahead;
     parser.expect(Wanted::Sign(Sign::LeftParenthesis))?;
-    let first = list(parser, Listed::Constants)?;
+    let first = list(parser, |parser| leaf(parser, Leaf::Constant))?;
     parser.expect(Wanted::Sign(Sign::RightParenthesis))?;
     Ok(parser.put(What::Tuple(first), at))
 }
 
-#[cycle(lists)]
-fn item(parser: &mut Parser<'_>, listed: Listed) -> Result<u16, Fault>
+// A list of one element or more, each read by `item`; the answer is its first.
+pub fn list<F: Fn(&mut Parser<'_>) -> Result<u16, Fault>>(
+    parser: &mut Parser<'_>,
+    item: F,
+) -> Result<u16, Fault>
+    requires callable { F.IsAlwaysCallable item }
+    requires moves { Moves F.Fn item }
     ensures lent { SameArena parser.old parser.new }
     ensures numbers { OnOk result (Numbers parser.old parser.new) }
-    ensures answer { (n : ℕ) → Follows (Held (level_of listed)) (item_reader n listed) parser.old parser.new result }
+    ensures answer { (listed : Listed) → Reads F.Fn item listed → (n : ℕ) → Follows (Held (level_of listed)) (read_level (item_reader n listed) (brackets_at any_token n) (level_of listed)) parser.old parser.new result }
 {
-    match listed {
-        Listed::Names => leaf(parser, Leaf::Name),
-        Listed::Types => leaf(parser, Leaf::Type),
-        Listed::Constants => leaf(parser, Leaf::Constant),
-        Listed::Attributes => attr_decl(parser),
-        Listed::Tuples => tuple_const(parser),
-    }
-}
-
-// A list of one element or more; the answer is its first.
-#[cycle(lists)]
-pub fn list(parser: &mut Parser<'_>, listed: Listed) -> Result<u16, Fault>
-    ensures lent { SameArena parser.old parser.new }
-    ensures numbers { OnOk result (Numbers parser.old parser.new) }
-    ensures answer { (n : ℕ) → Follows (Held (level_of listed)) (read_level (item_reader n listed) (brackets_at any_token n) (level_of listed)) parser.old parser.new result }
-{
-    let first = item(parser, listed)?;
-    more_items(parser, listed, first)
+    let first = item(parser)?;
+    more_items(parser, item, first)
 }
 
 // The elements behind a comma each.
-#[cycle(lists)]
-fn more_items(parser: &mut Parser<'_>, listed: Listed, first: u16) -> Result<u16, Fault>
+fn more_items<F: Fn(&mut Parser<'_>) -> Result<u16, Fault>>(
+    parser: &mut Parser<'_>,
+    item: F,
+    first: u16,
+) -> Result<u16, Fault>
     requires begun { 0 < parser.old.count }
+    requires callable { F.IsAlwaysCallable item }
+    requires moves { Moves F.Fn item }
     ensures lent { SameArena parser.old parser.new }
     ensures numbers { OnOk result (NumbersOn parser.old parser.new) }
-    ensures answer { (n : ℕ) → GoesOn (Held (level_of listed)) (rest (item_reader n listed) (brackets_at any_token n) (level_of listed)) first parser.old parser.new result }
+    ensures answer { (listed : Listed) → Reads F.Fn item listed → (n : ℕ) → GoesOn (Held (level_of listed)) (rest (item_reader n listed) (brackets_at any_token n) (level_of listed)) first parser.old parser.new result }
 {
     if !parser.sees(Wanted::Sign(Sign::Comma)) {
         return Ok(first);
     }
     let last = parser.count - 1;
     parser.advance()?;
-    let next = item(parser, listed)?;
+    let next = item(parser)?;
     link(parser.nodes, last, next);
-    more_items(parser, listed, first)
+    more_items(parser, item, first)
 }

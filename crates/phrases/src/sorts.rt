@@ -13,13 +13,3 @@ pub enum Leaf {
     Type,
     Constant,
 }
-
-// The lists that have commas.
-#[derive(Clone, Copy, Debug, PartialEq, Eq)]
-pub enum Listed {
-    Names,
-    Types,
-    Constants,
-    Attributes,
-    Tuples,
-}

@@ -33,7 +33,7 @@ returns-in_err-first-clause-answer c =
     λ text xs g.
     let k = stepped_ok text _ a c.advance.new.self _ (c.in_ok-advance.ensures.step text xs g) in
     answers_err _ text _ _ _ _ _ _ _ _ _ y.1 y.2
-    (table_first (end_of text) c.args.depth (spoken a.ahead.token) (ahead_at a) (behind a) (eqb (code_in (sign LeftParenthesis)) (code_ahead (spoken c.advance.new.self.ahead.token))) _ c.requires.token (begins_is (spoken c.advance.new.self.ahead.token) (ahead_at c.advance.new.self) (behind c.advance.new.self) ∙ ap (begins_with left_parenthesis) k.1) (refused_at_lem (end_of text) (read_level (item_reader c.args.depth (listed_of (instance_of (eqb (code_in (sign LeftParenthesis)) (code_ahead (spoken c.advance.new.self.ahead.token)))))) (brackets_at any_token c.args.depth) (list_level (listed_of (instance_of (eqb (code_in (sign LeftParenthesis)) (code_ahead (spoken c.advance.new.self.ahead.token))))))) _ _ _ k.1 (refusal _ text _ _ c.advance.new.self c.list.new.parser xs c.list.new.parser.nodes.now _ (instance_answers c.args.depth text c.listed.result (listed_of (instance_of (eqb (code_in (sign LeftParenthesis)) (code_ahead (spoken c.advance.new.self.ahead.token))))) (tokens_ahead c.advance.new.self) c.advance.new.self.count c.advance.new.self c.list.new.parser xs c.list.new.parser.nodes.now _ (c.listed.ensures ∙ ap listed_of c.instance-instance.ensures) (c.in_err-first.ensures.answer c.args.depth text _ k.0)))))
+    (table_first (end_of text) c.args.depth (spoken a.ahead.token) (ahead_at a) (behind a) (eqb (code_in (sign LeftParenthesis)) (code_ahead (spoken c.advance.new.self.ahead.token))) _ c.requires.token (begins_is (spoken c.advance.new.self.ahead.token) (ahead_at c.advance.new.self) (behind c.advance.new.self) ∙ ap (begins_with left_parenthesis) k.1) (refused_at_lem (end_of text) (read_level (item_reader c.args.depth (listed_of (instance_of (eqb (code_in (sign LeftParenthesis)) (code_ahead (spoken c.advance.new.self.ahead.token)))))) (brackets_at any_token c.args.depth) (list_level (listed_of (instance_of (eqb (code_in (sign LeftParenthesis)) (code_ahead (spoken c.advance.new.self.ahead.token))))))) _ _ _ k.1 (refusal _ text _ _ c.advance.new.self c.elements.new.parser xs c.elements.new.parser.nodes.now _ (instance_answers c.args.depth text (listed_of c.instance-instance.result) (listed_of (instance_of (eqb (code_in (sign LeftParenthesis)) (code_ahead (spoken c.advance.new.self.ahead.token))))) (tokens_ahead c.advance.new.self) c.advance.new.self.count c.advance.new.self c.elements.new.parser xs c.elements.new.parser.nodes.now _ (ap listed_of c.instance-instance.ensures) (c.in_err-first.ensures.answer c.args.depth text _ k.0)))))
 
 pub returns-in_err-expect-clause-answer : goal.returns-in_err-expect-clause-answer
 returns-in_err-expect-clause-answer c =
@@ -41,24 +41,24 @@ returns-in_err-expect-clause-answer c =
     let a = c.args.parser.now in
     λ text xs g.
     let k = stepped_ok text _ a c.advance.new.self _ (c.in_ok-advance.ensures.step text xs g) in
-    let v = answered _ text _ _ c.advance.new.self c.list.new.parser xs c.list.new.parser.nodes.now _ (instance_answers c.args.depth text c.listed.result (listed_of (instance_of (eqb (code_in (sign LeftParenthesis)) (code_ahead (spoken c.advance.new.self.ahead.token))))) (tokens_ahead c.advance.new.self) c.advance.new.self.count c.advance.new.self c.list.new.parser xs c.list.new.parser.nodes.now _ (c.listed.ensures ∙ ap listed_of c.instance-instance.ensures) (c.in_ok-first.ensures.answer c.args.depth text _ k.0)) in
+    let v = answered _ text _ _ c.advance.new.self c.elements.new.parser xs c.elements.new.parser.nodes.now _ (instance_answers c.args.depth text (listed_of c.instance-instance.result) (listed_of (instance_of (eqb (code_in (sign LeftParenthesis)) (code_ahead (spoken c.advance.new.self.ahead.token))))) (tokens_ahead c.advance.new.self) c.advance.new.self.count c.advance.new.self c.elements.new.parser xs c.elements.new.parser.nodes.now _ (ap listed_of c.instance-instance.ensures) (c.in_ok-first.ensures.answer c.args.depth text _ k.0)) in
     answers_err _ text _ _ _ _ _ _ _ _ _ y.1 y.2
-    (table_second (end_of text) c.args.depth (spoken a.ahead.token) (ahead_at a) (behind a) (eqb (code_in (sign LeftParenthesis)) (code_ahead (spoken c.advance.new.self.ahead.token))) v.part _ _ c.requires.token (begins_is (spoken c.advance.new.self.ahead.token) (ahead_at c.advance.new.self) (behind c.advance.new.self) ∙ ap (begins_with left_parenthesis) k.1) (read_at (read_level (item_reader c.args.depth (listed_of (instance_of (eqb (code_in (sign LeftParenthesis)) (code_ahead (spoken c.advance.new.self.ahead.token)))))) (brackets_at any_token c.args.depth) (list_level (listed_of (instance_of (eqb (code_in (sign LeftParenthesis)) (code_ahead (spoken c.advance.new.self.ahead.token))))))) _ _ _ _ k.1 v.value) (expected_broken text _ _ c.list.new.parser c.expect.new.self _ (c.in_err-expect.ensures.step text _ v.grounded)))
+    (table_second (end_of text) c.args.depth (spoken a.ahead.token) (ahead_at a) (behind a) (eqb (code_in (sign LeftParenthesis)) (code_ahead (spoken c.advance.new.self.ahead.token))) v.part _ _ c.requires.token (begins_is (spoken c.advance.new.self.ahead.token) (ahead_at c.advance.new.self) (behind c.advance.new.self) ∙ ap (begins_with left_parenthesis) k.1) (read_at (read_level (item_reader c.args.depth (listed_of (instance_of (eqb (code_in (sign LeftParenthesis)) (code_ahead (spoken c.advance.new.self.ahead.token)))))) (brackets_at any_token c.args.depth) (list_level (listed_of (instance_of (eqb (code_in (sign LeftParenthesis)) (code_ahead (spoken c.advance.new.self.ahead.token))))))) _ _ _ _ k.1 v.value) (expected_broken text _ _ c.elements.new.parser c.expect.new.self _ (c.in_err-expect.ensures.step text _ v.grounded)))
 
 pub returns-clause-answer : goal.returns-clause-answer
 returns-clause-answer c =
     let a = c.args.parser.now in
     let b = c.advance.new.self in
-    let d = c.list.new.parser in
+    let d = c.elements.new.parser in
     let e = c.expect.new.self in
-    let ys = c.list.new.parser.nodes.now in
+    let ys = c.elements.new.parser.nodes.now in
     let s = c.in_ok-advance.ensures in
     let i = c.in_ok-first.ensures in
     let z = c.in_ok-expect.ensures in
     let q = c.put.ensures in
     λ text xs g.
     let k = stepped_ok text _ a c.advance.new.self _ (c.in_ok-advance.ensures.step text xs g) in
-    let v = answered _ text _ _ c.advance.new.self c.list.new.parser xs c.list.new.parser.nodes.now _ (instance_answers c.args.depth text c.listed.result (listed_of (instance_of (eqb (code_in (sign LeftParenthesis)) (code_ahead (spoken c.advance.new.self.ahead.token))))) (tokens_ahead c.advance.new.self) c.advance.new.self.count c.advance.new.self c.list.new.parser xs c.list.new.parser.nodes.now _ (c.listed.ensures ∙ ap listed_of c.instance-instance.ensures) (c.in_ok-first.ensures.answer c.args.depth text _ k.0)) in
+    let v = answered _ text _ _ c.advance.new.self c.elements.new.parser xs c.elements.new.parser.nodes.now _ (instance_answers c.args.depth text (listed_of c.instance-instance.result) (listed_of (instance_of (eqb (code_in (sign LeftParenthesis)) (code_ahead (spoken c.advance.new.self.ahead.token))))) (tokens_ahead c.advance.new.self) c.advance.new.self.count c.advance.new.self c.elements.new.parser xs c.elements.new.parser.nodes.now _ (ap listed_of c.instance-instance.ensures) (c.in_ok-first.ensures.answer c.args.depth text _ k.0)) in
     let w = expected_ok text _ _ d e _ (z.step text _ v.grounded) in
     done_put _ text _ _ a e c.put.new.self xs ys c.node.result (ahead_at a) (table_constant (ahead_at a) v.part) _ q.state q.nodes q.root
     (table_found c.args.depth (spoken a.ahead.token) (ahead_at a) (behind a) (eqb (code_in (sign LeftParenthesis)) (code_ahead (spoken c.advance.new.self.ahead.token))) v.part _ _ _ c.requires.token (begins_is (spoken c.advance.new.self.ahead.token) (ahead_at c.advance.new.self) (behind c.advance.new.self) ∙ ap (begins_with left_parenthesis) k.1) (read_at (read_level (item_reader c.args.depth (listed_of (instance_of (eqb (code_in (sign LeftParenthesis)) (code_ahead (spoken c.advance.new.self.ahead.token)))))) (brackets_at any_token c.args.depth) (list_level (listed_of (instance_of (eqb (code_in (sign LeftParenthesis)) (code_ahead (spoken c.advance.new.self.ahead.token))))))) _ _ _ _ k.1 v.value) w.1) w.0
