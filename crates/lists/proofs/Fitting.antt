@@ -1,107 +1,97 @@
 -- Domains of constants, one by one.
-use Rattle.std.proofs.Common.{◌≡◌, ℕ, ◌-◌, ◌<◌, ◌≤◌, Bool, true, false, ◌&&◌, eqb, List, [], ◌∷◌, map, length, get_or, take, drop, Some, None, Ok, Err, Option, sym, refl, ap, ◌∙◌, arith}
-use Rattle.std.proofs.lemmas.Bool.Decides.{nat_tests}
-use Rattle.std.proofs.lemmas.List.{nil_from_length, get_or_past}
+use Rattle.std.proofs.Common.{◌≡◌, ℕ, ◌≤◌, Bool, true, false, ◌&&◌, List, [], ◌∷◌, map, length, Some, None, Ok, Err, Option, sym, refl, ap, ◌∙◌, arith}
+use Rattle.std.specs.List.{AllZip}
 use Rattle.domain.specs.declared.Domain.{Domain}
+use Rattle.fault.specs.Limits.{columns}
+use Rattle.fault.specs.declared.rules.Fault.{Fault}
 use Rattle.fault.specs.declared.rules.Rule.TheVariants.{OperandMismatch}
 use Rattle.words.specs.Tokens.{Place}
 use Rattle.grammar.specs.Tree.{Constant, Tuple, Tuple.tuple_of}
-use Rattle.schema.specs.Sameness.{same_domain}
 use Rattle.schema.specs.Building.{with_one, with_all}
+use Rattle.schema.specs.Columns.{held}
+use Rattle.schema.specs.declared.schemas.Schema.{Schema}
 use Rattle.schema.specs.declared.attributes.Attribute.{Attribute}
-use Rattle.schema.proofs.Fronts.{cut_one}
-use Rattle.schema.proofs.Growing.{grown, full, added, one_length}
+use Rattle.schema.proofs.Growing.{held_few, grown, full, added, one_length}
 use Rattle.typing.specs.Environments.{fault}
 use Rattle.typing.specs.Tables.{domain_of, same_domains}
 use Rattle.typing.specs.Checker.{Answer, ask, fitting}
 use Rattle.tree.specs.declared.nodes.Node.{Node}
 use Rattle.tree.specs.declared.nodes.What.TheVariants.{Tuple as Tupled}
-use Rattle.tree.specs.Holds.{empty, node_at, said}
-use Rattle.lists.specs.Links.{next_of, Linked}
+use Rattle.tree.specs.Holds.{said}
+use Rattle.lists.specs.Links.{Linked}
 use Rattle.lists.specs.Elements.{unnamed, domain_said, IsDomain, IsTuple}
-use Rattle.lists.proofs.Walking.{same_some, not_both, at_first, at_more, at_end}
+use Rattle.lists.specs.Walks.{walked}
+use Rattle.lists.specs.Fits.{is_domain, constants_fit}
+use Rattle.lists.proofs.Walking.{linked_walked}
 
--- An entry outside the arena is empty.
-pub node_outside : (ns : List Node) (i : ℕ) → length ns ≤ i → empty ≡ node_at ns i
-node_outside ns i h = sym (get_or_past ns i empty h)
+-- What the nodes of a list make of the columns before them.
 
--- The columns of a list of types or constants.
-module _ (ns : List Node) (i : ℕ) (before after : List Attribute) (d : Domain) where
-  pub columns_more : (j : ℕ) → Some d ≡ domain_said (node_at ns i).what → Some after ≡ with_one before (unnamed d) → Some j ≡ next_of ns i → {r : Option (List Attribute)} →
-      ((ds : List Domain) → Linked IsDomain ns j ds → r ≡ with_all after (map unnamed ds)) → (ds : List Domain) → Linked IsDomain ns i ds → r ≡ with_all before (map unnamed ds)
-  columns_more j here more link rest = at_more IsDomain ns i _ j link λ e es is linked.
-      rest es linked ∙ grown before (map unnamed es) after (unnamed d) more ∙ ap (λ x. with_all before (unnamed x ∷ map unnamed es)) (same_some is here)
+abbrev pub then : {A B : Type 0} → Option A → (A → Option B) → Option B
+then None f = None
+then (Some a) f = f a
 
-  pub columns_end : Some d ≡ domain_said (node_at ns i).what → Some after ≡ with_one before (unnamed d) → None ≡ next_of ns i → (ds : List Domain) → Linked IsDomain ns i ds → Some after ≡ with_all before (map unnamed ds)
-  columns_end here more link = at_end IsDomain ns i _ link λ e is.
-      added after [] (omega arith) (one_length before after (unnamed d) more) ∙ grown before [] after (unnamed d) more ∙ ap (λ x. with_all before (unnamed x ∷ [])) (same_some is here)
+abbrev pub columns_said : List Node → List Attribute → Option (List Attribute)
+columns_said [] before = Some before
+columns_said (n ∷ nodes) before = then (domain_said n.what) λ d. then (with_one columns before (unnamed d)) λ after. columns_said nodes after
 
-  pub columns_full : Some d ≡ domain_said (node_at ns i).what → None ≡ with_one before (unnamed d) → (ds : List Domain) → Linked IsDomain ns i ds → None ≡ with_all before (map unnamed ds)
-  columns_full here none_left = at_first IsDomain ns i _ λ e es is.
-      full before (map unnamed es) (unnamed d) none_left ∙ ap (λ x. with_all before (unnamed x ∷ map unnamed es)) (same_some is here)
+columns_are : (nodes : List Node) (before : List Attribute) (ds : List Domain) → AllZip (λ n d. IsDomain (said n) d) nodes ds → length before ≤ columns → columns_said nodes before ≡ with_all before (map unnamed ds)
+columns_are [] before [] h few = added before [] (omega arith) few
+columns_are [] before (d ∷ ds) h few = absurd h
+columns_are (n ∷ nodes) before [] h few = absurd h
+columns_are (n ∷ nodes) before (d ∷ ds) (is, rest) few =
+    ap (λ o. then o λ d. then (with_one columns before (unnamed d)) λ after. columns_said nodes after) is
+    ∙ by (with_one columns before (unnamed d)) refl (λ after. columns_are nodes after ds rest)
+  where
+    by : (o : Option (List Attribute)) → o ≡ with_one columns before (unnamed d) → ((after : List Attribute) → length after ≤ columns → columns_said nodes after ≡ with_all after (map unnamed ds)) →
+        then o (λ after. columns_said nodes after) ≡ with_all before (unnamed d ∷ map unnamed ds)
+    by None e later = full before (map unnamed ds) (unnamed d) e
+    by (Some after) e later = later after (one_length before after (unnamed d) e) ∙ grown before (map unnamed ds) after (unnamed d) e
 
-pub columns_none : (ns : List Node) (i : ℕ) (before : List Attribute) {r : Option (List Attribute)} → None ≡ domain_said (node_at ns i).what → (ds : List Domain) → Linked IsDomain ns i ds → r ≡ with_all before (map unnamed ds)
-columns_none ns i before here = at_first IsDomain ns i _ λ e es is. not_both is here
+-- They are those of the list's types or constants.
+pub columns_linked : (ns : List Node) (i : ℕ) (s : Schema) {r : Option (List Attribute)} → r ≡ columns_said (walked ns (Some i)) (held s) → (ds : List Domain) → Linked IsDomain ns i ds → r ≡ with_all (held s) (map unnamed ds)
+columns_linked ns i s e ds linked = e ∙ columns_are (walked ns (Some i)) (held s) ds (linked_walked IsDomain ns i ds linked) (held_few s)
 
 abbrev pub domains : List Attribute → List Domain
 domains = map (λ a. a.domain)
 
 -- The constants of a tuple against columns.
-module _ (ns : List Node) (i : ℕ) (own : List Attribute) (x : Attribute) (some_left : 1 ≤ length own) where
-  front : domains own ≡ (get_or own 0 x).domain ∷ domains (take (length own - 1) (drop 1 own))
-  front = ap domains (cut_one own x some_left)
+constants_are : (nodes : List Node) (own : List Attribute) (ds : List Domain) → AllZip (λ n d. IsDomain (said n) d) nodes ds → constants_fit nodes own ≡ same_domains ds (domains own)
+constants_are [] [] [] h = refl
+constants_are [] (a ∷ own) [] h = refl
+constants_are [] own (d ∷ ds) h = absurd h
+constants_are (n ∷ nodes) own [] h = absurd h
+constants_are (n ∷ nodes) [] (d ∷ ds) h = refl
+constants_are (n ∷ nodes) (a ∷ own) (d ∷ ds) (is, rest) = ap (λ o. is_domain o a.domain && constants_fit nodes own) is ∙ ap (λ b. is_domain (Some d) a.domain && b) (constants_are nodes own ds rest)
 
-  pub fit_not : ((d : Domain) → IsDomain (said (node_at ns i)) d → false ≡ same_domain d (get_or own 0 x).domain) → (ds : List Domain) → Linked IsDomain ns i ds → false ≡ same_domains ds (domains own)
-  fit_not no-so = at_first IsDomain ns i _ λ e es is.
-      ap (λ b. b && same_domains es (domains (take (length own - 1) (drop 1 own)))) (no-so e is) ∙ ap (same_domains (e ∷ es)) (sym front)
+-- Tuples against columns, one by one: r is the answer to those of these nodes.
+abbrev pub TuplesFit : List Node → List Attribute → List Node → Answer (Unit {0}) → Type 0
+TuplesFit ns own nodes r = (tuples : List Tuple) → AllZip (λ n t. IsTuple ns (said n) t) nodes tuples → r ≡ fitting (domains own) tuples
 
-  pub fit_more : (j : ℕ) (r : Bool) → ((d : Domain) → IsDomain (said (node_at ns i)) d → true ≡ same_domain d (get_or own 0 x).domain) → Some j ≡ next_of ns i →
-      ((ds : List Domain) → Linked IsDomain ns j ds → r ≡ same_domains ds (domains (take (length own - 1) (drop 1 own)))) → (ds : List Domain) → Linked IsDomain ns i ds → r ≡ same_domains ds (domains own)
-  fit_more j r so link rest = at_more IsDomain ns i _ j link λ e es is linked.
-      rest es linked ∙ ap (λ b. b && same_domains es (domains (take (length own - 1) (drop 1 own)))) (so e is) ∙ ap (same_domains (e ∷ es)) (sym front)
-
-  pub fit_end : (r : Bool) → ((d : Domain) → IsDomain (said (node_at ns i)) d → true ≡ same_domain d (get_or own 0 x).domain) → None ≡ next_of ns i → r ≡ eqb (length (take (length own - 1) (drop 1 own))) 0 →
-      (ds : List Domain) → Linked IsDomain ns i ds → r ≡ same_domains ds (domains own)
-  fit_end r so link ended = at_end IsDomain ns i _ link λ e is.
-      ended ∙ none_left (take (length own - 1) (drop 1 own)) ∙ ap (λ b. b && same_domains [] (domains (take (length own - 1) (drop 1 own)))) (so e is) ∙ ap (same_domains (e ∷ [])) (sym front)
-    where
-      none_left : (rest : List Attribute) → eqb (length rest) 0 ≡ same_domains [] (domains rest)
-      none_left [] = refl
-      none_left (a ∷ rest) = grind (arith, nat_tests)
-
-pub fit_empty : (ns : List Node) (i : ℕ) (own : List Attribute) → length own < 1 → (ds : List Domain) → Linked IsDomain ns i ds → false ≡ same_domains ds (domains own)
-fit_empty ns i own ended = at_first IsDomain ns i _ λ e es is. ap (λ l. same_domains (e ∷ es) (domains l)) (sym (nil_from_length own (omega arith)))
-
--- Tuples against columns, one by one.
-module _ (ns : List Node) (i : ℕ) (ds : List Domain) where
-  -- What a test of each tuple's constants says.
+module _ (ns : List Node) (own : List Attribute) (n : Node) (nodes : List Node) where
+  -- What a test of the node says.
   abbrev pub Tests : Bool → Type 0
-  Tests b = (start : ℕ) (es : List Domain) → (node_at ns i).what ≡ Tupled start → Linked IsDomain ns start es → b ≡ same_domains es ds
+  Tests b = (start : ℕ) → n.what ≡ Tupled start → b ≡ constants_fit (walked ns (Some start)) own
 
-  tested : {b : Bool} → Tests b → (cs : List Constant) (p : Place) → IsTuple ns (said (node_at ns i)) (tuple_of cs p) → b ≡ same_domains (map domain_of cs) ds
-  tested so cs p (first, says, linked) = so first (map domain_of cs) (ap (λ s. s.what) says) linked
+  tested : {b : Bool} → Tests b → (cs : List Constant) (p : Place) → IsTuple ns (said n) (tuple_of cs p) → b ≡ same_domains (map domain_of cs) (domains own)
+  tested so cs p (first, says, linked) = so first (ap (λ s. s.what) says) ∙ constants_are (walked ns (Some first)) own (map domain_of cs) (linked_walked IsDomain ns first (map domain_of cs) linked)
 
-  placed : (cs : List Constant) (p : Place) → IsTuple ns (said (node_at ns i)) (tuple_of cs p) → (said (node_at ns i)).place ≡ p
+  placed : (cs : List Constant) (p : Place) → IsTuple ns (said n) (tuple_of cs p) → n.place ≡ p
   placed cs p (first, says, linked) = ap (λ s. s.place) says
 
-  pub tuples_stop : Tests false → (tuples : List Tuple) → Linked (IsTuple ns) ns i tuples → Err (fault OperandMismatch (said (node_at ns i)).place) ≡ fitting ds tuples
+  pub tuples_stop : (f : Fault) → f ≡ fault OperandMismatch n.place → Tests false → TuplesFit ns own (n ∷ nodes) (Err f)
   unfolding fitting ask
-  tuples_stop no-so = at_first (IsTuple ns) ns i _ λ x rest is. by x rest is
-    where
-      by : (x : Tuple) (rest : List Tuple) → IsTuple ns (said (node_at ns i)) x → Err (fault OperandMismatch (said (node_at ns i)).place) ≡ fitting ds (x ∷ rest)
-      by (tuple_of cs p) rest is = rw (sym (tested no-so cs p is)) (ap (λ q. Err (fault OperandMismatch q)) (placed cs p is))
+  tuples_stop f here no-so [] h = absurd h
+  tuples_stop f here no-so (tuple_of cs p ∷ tuples) (is, rest) = rw (sym (tested no-so cs p is)) (ap Err here ∙ ap (λ q. Err (fault OperandMismatch q)) (placed cs p is))
 
-  pub tuples_more : (j : ℕ) (r : Answer (Unit {0})) → Tests true → Some j ≡ next_of ns i → ((tuples : List Tuple) → Linked (IsTuple ns) ns j tuples → r ≡ fitting ds tuples) →
-      (tuples : List Tuple) → Linked (IsTuple ns) ns i tuples → r ≡ fitting ds tuples
+  pub tuples_more : (r : Answer (Unit {0})) → Tests true → TuplesFit ns own nodes r → TuplesFit ns own (n ∷ nodes) r
   unfolding fitting ask
-  tuples_more j r so link more = at_more (IsTuple ns) ns i _ j link λ x rest is linked. by x rest is (more rest linked)
-    where
-      by : (x : Tuple) (rest : List Tuple) → IsTuple ns (said (node_at ns i)) x → r ≡ fitting ds rest → r ≡ fitting ds (x ∷ rest)
-      by (tuple_of cs p) rest is e = rw (sym (tested so cs p is)) e
+  tuples_more r so more [] h = absurd h
+  tuples_more r so more (tuple_of cs p ∷ tuples) (is, rest) = rw (sym (tested so cs p is)) (more tuples rest)
 
-  pub tuples_end : Tests true → None ≡ next_of ns i → (tuples : List Tuple) → Linked (IsTuple ns) ns i tuples → Ok tt ≡ fitting ds tuples
-  unfolding fitting ask
-  tuples_end so link = at_end (IsTuple ns) ns i _ link λ x is. by x is
-    where
-      by : (x : Tuple) → IsTuple ns (said (node_at ns i)) x → Ok tt ≡ fitting ds (x ∷ [])
-      by (tuple_of cs p) is = rw (sym (tested so cs p is)) refl
+pub tuples_end : (ns : List Node) (own : List Attribute) → TuplesFit ns own [] (Ok tt)
+unfolding fitting
+tuples_end ns own [] h = refl
+tuples_end ns own (t ∷ tuples) h = absurd h
+
+pub tuples_linked : (ns : List Node) (own : List Attribute) (i : ℕ) (r : Answer (Unit {0})) → TuplesFit ns own (walked ns (Some i)) r → (tuples : List Tuple) → Linked (IsTuple ns) ns i tuples → r ≡ fitting (domains own) tuples
+tuples_linked ns own i r fit tuples linked = fit tuples (linked_walked (IsTuple ns) ns i tuples linked)

@@ -1,4 +1,3 @@
 pub mod Walking
-mod Fitting
-mod Counting
-mod Renaming
+pub mod Fitting
+pub mod Renaming

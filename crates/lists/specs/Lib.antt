@@ -1,3 +1,5 @@
 pub mod Links
 pub mod Elements
+pub mod Walks
+pub mod Fits
 pub mod Naming

@@ -3,9 +3,14 @@ use Rattle.std.specs.Prelude.{◌≡◌, ℕ, cond, ◌&&◌, List, [], ◌∷�
 use Rattle.tree.specs.declared.nodes.Node.{Node}
 use Rattle.tree.specs.Holds.{node_at, Said, said}
 
+-- a link from entry i, if it leads onward and within so many entries
+abbrev pub onward : ℕ → ℕ → Option ℕ → Option ℕ
+onward i most None = None
+onward i most (Some next) = cond (nat_lt i next && nat_lt next most) (Some next) None
+
 -- where a link leads, if that is onward and within the arena
 abbrev pub next_of : List Node → ℕ → Option ℕ
-next_of ns i = cond (nat_lt i (node_at ns i).next && nat_lt (node_at ns i).next (length ns)) (Some (node_at ns i).next) None
+next_of ns i = onward i (length ns) (node_at ns i).next
 
 -- the nodes from entry i on, link by link, are elements of the list; `Is s x` says that a node which says s is the element x
 abbrev pub Linked : {A : Type 0} → (Said → A → Type 0) → List Node → ℕ → List A → Type 0

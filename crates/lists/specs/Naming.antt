@@ -1,17 +1,16 @@
 -- The names that nodes have.
-use Rattle.std.specs.Prelude.{◌≡◌, ℕ, ◌+◌, ◌<◌, ◌≤◌, not, List, [], ◌∷◌, ◌++◌, map, length, drop, Some, None, Ok, Option}
+use Rattle.std.specs.Prelude.{◌<◌, not, List, [], ◌∷◌, ◌++◌, length, Some, None, Ok, Option, ◌≡◌}
+use Rattle.domain.specs.declared.Domain.{Domain}
 use Rattle.words.specs.declared.spans.Span.{Span}
 use Rattle.fault.specs.Limits.{columns}
 use Rattle.fault.specs.declared.rules.Rule.TheVariants.{RepeatedName}
 use Rattle.words.specs.Tokens.{Bytes, Place}
-use Rattle.grammar.specs.Tree.{Name, Name.named}
+use Rattle.grammar.specs.Tree.{Name.named}
 use Rattle.schema.specs.Columns.{Column}
 use Rattle.typing.specs.Environments.{fault}
-use Rattle.typing.specs.Tables.{has, among, bytes_in, renaming, column_named}
-use Rattle.typing.specs.Checker.{Answer, ask, bind, distinct}
-use Rattle.tree.specs.declared.nodes.Node.{Node}
+use Rattle.typing.specs.Tables.{has, column_named}
+use Rattle.typing.specs.Checker.{Answer, ask}
 use Rattle.tree.specs.Holds.{Said}
-use Rattle.lists.specs.Links.{Linked}
 use Rattle.lists.specs.Elements.{IsName}
 use Rattle.tree.specs.declared.nodes.What.{What}
 use Rattle.tree.specs.declared.nodes.What.TheVariants as what
@@ -56,15 +55,8 @@ span_said (what.Everywhere a b) = None
 span_said (what.Updated a b c) = None
 span_said (what.Extended a b c d) = None
 
--- `RenamesOne text s cs fresh r`: a node that says s renames the next of the columns cs, where fresh are those renamed so far; r is the answer
-abbrev pub RenamesOne : Bytes → Said → List Column → List Column → Answer (List Column) → Type 0
-RenamesOne text s cs fresh r =
-    (n : Bytes) (p : Place) (c : Column) (rest : List Column) → IsName text s (named n p) → drop (length fresh) cs ≡ c ∷ rest → length fresh < columns →
-    r ≡ ask (not (has fresh n)) (fault RepeatedName p) (Ok (fresh ++ (column_named n c.domain ∷ [])))
-
--- `RenamesAll text ns i cs fresh r`: the names from entry i on rename the columns of cs behind those renamed so far, fresh; r is the answer
-abbrev pub RenamesAll : Bytes → List Node → ℕ → List Column → List Column → Answer (List Column) → Type 0
-RenamesAll text ns i cs fresh r =
-    (names : List Name) (before : List Bytes) → Linked (IsName text) ns i names → ((m : Bytes) → has fresh m ≡ among before m) →
-    length fresh + length names ≡ length cs → length cs ≤ columns →
-    r ≡ bind (distinct before names) (λ all. Ok (fresh ++ renaming (map bytes_in names) (drop (length fresh) cs)))
+-- `RenamesOne text s d fresh r`: a node that says s names a column of the domain d, where fresh are those renamed so far; r is the answer
+abbrev pub RenamesOne : Bytes → Said → Domain → List Column → Answer (List Column) → Type 0
+RenamesOne text s d fresh r =
+    (n : Bytes) (p : Place) → IsName text s (named n p) → length fresh < columns →
+    r ≡ ask (not (has fresh n)) (fault RepeatedName p) (Ok (fresh ++ (column_named n d ∷ [])))

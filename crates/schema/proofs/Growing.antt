@@ -1,14 +1,16 @@
--- Arrays of which the first so many count, with more of them.
+-- Schemas and lists of attributes that grow.
 use Rattle.std.proofs.Common.{◌≡◌, ℕ, ◌+◌, ◌<◌, ◌≤◌, Bool, true, false, cond, ltb, leb, List, [], ◌∷◌, ◌++◌, length, take, Some, None, Option, sym, refl, ap, ◌∙◌, arith}
 use Rattle.std.proofs.lemmas.Bool.Decides.{nat_tests}
 use Rattle.std.proofs.lemmas.List.{length-take-le, length-append, append_assoc, nil_from_length, append-nil}
 use Rattle.fault.specs.Limits.{columns}
 use Rattle.schema.specs.declared.attributes.Attribute.{Attribute}
+use Rattle.schema.specs.declared.schemas.Schema.{Schema}
+use Rattle.schema.specs.Columns.{held}
 use Rattle.schema.specs.Building.{with_one, with_all}
 
--- A front that is no longer than the list has as many entries as were asked for.
-pub front_length : {A : Type 0} (most : ℕ) (room : List A) (n : ℕ) → length room ≡ most → n ≤ most → length (take n room) ≡ n
-front_length most room n full few = length-take-le n room (omega (arith, full))
+-- A schema has not too many.
+pub held_few : (s : Schema) → length (held s) ≤ columns
+held_few s = omega (arith, length-take-le s.len s.attributes (omega (arith, s.room, s.few)), s.few)
 
 -- With one more, the rest is still to be added.
 pub grown : (before more after : List Attribute) (a : Attribute) → Some after ≡ with_one columns before a → with_all after more ≡ with_all before (a ∷ more)

@@ -1,24 +1,42 @@
-use Rattle.std.proofs.Common.{◌≡◌, ◌≤◌, List, map, length, Err, sym, ap, ◌∙◌, subst, arith}
-use Rattle.std.proofs.lemmas.List.{length-map}
-use Rattle.fault.specs.Limits.{columns}
-use Rattle.schema.specs.Columns.{column_of, schema_of, held}
-use Rattle.schema.specs.declared.attributes.Attribute.{Attribute}
-use Rattle.schema.proofs.Growing.{front_length}
-use Rattle.inference.specs.Views.{place_of, schema_answer}
-use Rattle.lists.specs.Naming.{RenamesAll}
-use Rattle.lists.proofs.Renaming.{rename_count, rename_all}
+use Rattle.std.proofs.Common.{◌≡◌, ◌∷◌, [], ap, sym, subst, Some, Ok, Err, List, length, rules, arith}
+use Rattle.std.specs.Iterator.Adapters.{zip_first, zip_second}
+use Rattle.std.specs.Slice.Iter.{iter_rest}
+use mathlib.Core.Logic.{inl, inr}
+use Rattle.schema.specs.Columns.{Column, schema_of, held}
+use Rattle.schema.proofs.Growing.{held_few}
+use Rattle.typing.specs.Checker.{Answer}
+use Rattle.inference.specs.Views.{answered}
+use Rattle.lists.specs.Walks.{left, walked}
+use Rattle.lists.proofs.Walking.{end_together}
+use Rattle.lists.proofs.Renaming.{RenamesAll, rename_count, rename_all, renames_ended, renames_stopped, renames_on}
 use Rattle.lists.proofs.names.rename.Goals as goal
 
 pub returns-then-not-as_many : goal.returns-then-not-as_many
-returns-then-not-as_many c = λ names linked.
-    ap Err c.fault.ensures
-    ∙ rename_count c.args.text.now c.args.nodes.now c.args.first (schema_of c.args.text.now c.args.schema.now) (place_of c.args.at) c.width.result
-    (c.width.ensures ∙ sym (length-map (held c.args.schema.now) (column_of c.args.text.now))) (c.if-not-as_many.ensures c.args.text.now) names linked
+returns-then-not-as_many c = rename_count c.args.text.now c.args.nodes.now c.args.first (held c.args.schema.now) c.args.at (search rules) c.fault.result c.fault.ensures
+
+pub returns-in_err-fresh : goal.returns-in_err-fresh
+returns-in_err-fresh c =
+    let first : left (zip_first c.loop-name.name-iterator) ≡ c.in-Some.name ∷ left (zip_first c.next.new.self) = search rules in
+    let second : iter_rest (zip_second c.loop-name.name-iterator) ≡ c.in-Some.attribute.now ∷ iter_rest (zip_second c.next.new.self) = search rules in
+    let told : c.from_residual.result ≡ Err c.in_err-fresh.field-0.0 = search rules in
+    rename_all c.args.text.now c.args.nodes.now c.args.first (held c.args.schema.now) c.args.at (search rules) (held_few c.args.schema.now) (answered (schema_of c.args.text.now) c.from_residual.result) (
+    subst (λ (r : Answer (List Column)). RenamesAll c.args.text.now (walked c.args.nodes.now (Some c.args.first)) (schema_of c.args.text.now c.args.schema.now) [] r) (ap (answered (schema_of c.args.text.now)) (sym told))
+    (c.loop-name.invariant.same (Err c.in_err-fresh.field-0.0) (renames_stopped c.args.text.now first second (schema_of c.args.text.now c.loop-name.fresh) c.in_err-fresh.field-0.0 (search rules))))
+
+pub loop-name-preserved : goal.loop-name-preserved
+loop-name-preserved c =
+    let first : left (zip_first c.loop-name.name-iterator) ≡ c.in-Some.name ∷ left (zip_first c.next.new.self) = search rules in
+    let second : iter_rest (zip_second c.loop-name.name-iterator) ≡ c.in-Some.attribute.now ∷ iter_rest (zip_second c.next.new.self) = search rules in
+    record {
+      ready = search rules;
+      ends = search rules;
+      as_many = omega (arith, c.loop-name.invariant.as_many, ap length first, ap length second);
+      same = λ r all. c.loop-name.invariant.same r (renames_on c.args.text.now first second (schema_of c.args.text.now c.loop-name.fresh) (schema_of c.args.text.now c.in_ok-fresh.fresh) (search rules) r all);
+    }
 
 pub returns : goal.returns
 returns c =
-    let size : length (schema_of c.args.text.now c.args.schema.now) ≡ length (held c.args.schema.now) = length-map (held c.args.schema.now) (column_of c.args.text.now) in
-    let few : length (schema_of c.args.text.now c.args.schema.now) ≤ columns = omega (arith, size, front_length columns c.args.schema.now.attributes c.args.schema.now.len c.args.schema.now.room c.args.schema.now.few, c.args.schema.now.few) in
-    rename_all c.args.text.now c.args.nodes.now c.args.first (schema_of c.args.text.now c.args.schema.now) (place_of c.args.at) c.width.result
-    (c.width.ensures ∙ sym size) (c.if-not-as_many.ensures c.args.text.now) few (schema_answer c.args.text.now c.rename_from.result)
-    (subst (λ (l : List Attribute). RenamesAll c.args.text.now c.args.nodes.now c.args.first (schema_of c.args.text.now c.args.schema.now) (map (column_of c.args.text.now) l) (schema_answer c.args.text.now c.rename_from.result)) c.empty.ensures c.rename_from.ensures)
+    let ended = end_together (left (zip_first c.loop-name.name-iterator)) (iter_rest (zip_second c.loop-name.name-iterator)) (elim c.in-None.ensures.steps [ inl s ↦ inl s.1.0 | inr s ↦ inr s.1.0 ]) c.loop-name.invariant.as_many in
+    rename_all c.args.text.now c.args.nodes.now c.args.first (held c.args.schema.now) c.args.at (search rules) (held_few c.args.schema.now) (Ok (schema_of c.args.text.now c.loop-name.fresh)) (
+    c.loop-name.invariant.same (Ok (schema_of c.args.text.now c.loop-name.fresh))
+    (renames_ended c.args.text.now (left (zip_first c.loop-name.name-iterator)) (iter_rest (zip_second c.loop-name.name-iterator)) (schema_of c.args.text.now c.loop-name.fresh) ended.0 ended.1))
