@@ -1,5 +1,4 @@
 pub mod Decoding
-pub mod Searching
 pub mod Keeping
 pub mod Growing
 pub mod Settling

@@ -15,6 +15,7 @@ pub(crate) fn count_rows(lines: &[Line], table: u16) -> usize
 }
 
 // The table's row of this number, if it has so many.
+// Counted down by hand: of `filter(..).nth(row)` the search finds no proof, with the lemmas on chains neither, since `nth` has no clause that names a list.
 pub(crate) fn find_row(lines: &[Line], table: u16, row: usize) -> Option<Line>
     ensures { result ≡ slice_get (lines_of table lines.now) row }
 {

@@ -1,3 +1,4 @@
+pub mod Chunks
 pub mod Beginnings
 pub mod Fields
 pub mod Turning

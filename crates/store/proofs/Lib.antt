@@ -5,3 +5,4 @@ pub mod Cells
 pub mod Kept
 pub mod Reasons
 pub mod Laws
+pub mod Exits

@@ -1,30 +1,28 @@
-use Rattle.std.proofs.Common.{◌≡◌, ℕ, ◌+◌, ◌-◌, ◌*◌, true, false, ◌||◌, length, take, drop, sym, ap, ◌∙◌, arith}
-use Rattle.std.proofs.lemmas.Slice.Eq.{slice_eq-Decides}
-use Rattle.std.proofs.lemmas.Bool.Decides.{same_from_decides, Decides-int_eq}
+use Rattle.std.proofs.Common.{◌≡◌, ℕ, ◌+◌, ◌-◌, ◌*◌, ◌<◌, false, List, ℤ, length, take, drop, sym, ap, ◌∙◌, subst, arith, rules}
+use Rattle.std.proofs.lemmas.List.{length-drop, length-take-le, take-append-drop}
+use Rattle.std.specs.Iterator.Runs.{IsChunksExactRun}
+use Rattle.std.specs.Slice.Iter.{chunks_exact_size, chunks_exact_rest}
 use Rattle.store.specs.Meaning.{same_row, has}
+use Rattle.store.proofs.Rows.{same_row_true, same_row_decides}
+use Rattle.std.proofs.lemmas.Bool.{false≢true}
 use Rattle.directory.specs.Run.{chunk}
-use Rattle.store.proofs.Rows.{same_row_decides}
-use Rattle.directory.proofs.Searching.{has_step}
+use Rattle.directory.proofs.Decoding.{chunk_front}
+use Rattle.packed.proofs.Chunks.{any_verdict}
 use Rattle.packed.proofs.searches.has_row.Goals as goal
 
-pub returns-then-eq : goal.returns-then-eq
-returns-then-eq c =
+pub returns : goal.returns
+returns c =
     let row = c.args.row.now in
     let w : ℕ = length row in
-    let at : ℕ = c.args.from + c.loop-k.k * w in
-    let step = has_step c.args.cells.now row c.args.from c.loop-k.k c.args.count w (omega arith) in
-    let back : at + w - at ≡ w = omega arith in
-    let d = slice_eq-Decides Decides-int_eq (take (at + w - at) (drop at c.args.cells.now)) row c.eq.result c.eq.ensures in
-    let same : same_row (take w (drop at c.args.cells.now)) row ≡ true = ap (λ n. same_row (take n (drop at c.args.cells.now)) row) (sym back) ∙ (same_row_decides _ _).1 (d.0 c.if-eq.true) in
-    sym (ap (λ b. b || has (chunk (c.args.count - (c.loop-k.k + 1)) w (drop (c.args.from + (c.loop-k.k + 1) * w) c.args.cells.now)) row) same) ∙ sym step ∙ c.loop-k.invariant
-
-pub loop-k-preserved : goal.loop-k-preserved
-loop-k-preserved c =
-    let row = c.args.row.now in
-    let w : ℕ = length row in
-    let at : ℕ = c.args.from + c.loop-k.k * w in
-    let step = has_step c.args.cells.now row c.args.from c.loop-k.k c.args.count w (omega arith) in
-    let back : at + w - at ≡ w = omega arith in
-    let d = slice_eq-Decides Decides-int_eq (take (at + w - at) (drop at c.args.cells.now)) row c.eq.result c.eq.ensures in
-    let same : same_row (take w (drop at c.args.cells.now)) row ≡ false = ap (λ n. same_row (take n (drop at c.args.cells.now)) row) (sym back) ∙ sym (same_from_decides _ _ d (same_row_decides _ _)) ∙ c.if-eq.false in
-    sym (ap (λ b. b || has (chunk (c.args.count - (c.loop-k.k + 1)) w (drop (c.args.from + (c.loop-k.k + 1) * w) c.args.cells.now)) row) same) ∙ sym step ∙ c.loop-k.invariant
+    let n : ℕ = c.args.from + c.args.count * w - c.args.from in
+    let whole : List ℤ = drop c.args.from c.args.cells.now in
+    let rows : List ℤ = take n whole in
+    let sized : n ≡ c.args.count * w = omega arith in
+    let long : length rows ≡ c.args.count * w = length-take-le n whole (omega (arith, c.requires, length-drop c.args.from c.args.cells.now)) ∙ sized in
+    let r = c.any.ensures.runs in
+    let size_is : chunks_exact_size r.0.from ≡ w = ap chunks_exact_size r.1 ∙ c.chunks_exact.ensures.size in
+    let rest_is : chunks_exact_rest r.0.from ≡ rows = ap chunks_exact_rest r.1 ∙ c.chunks_exact.ensures.rest in
+    let wide : 0 < w = omega arith in
+    let chunks = subst (λ xs. IsChunksExactRun r.0 w xs) rest_is (subst (λ k. IsChunksExactRun r.0 k (chunks_exact_rest r.0.from)) size_is (c.chunks_exact.ensures.runs r.0 r.0.seen (omega (arith, size_is)))) in
+    let front : has (chunk c.args.count w rows) row ≡ has (chunk c.args.count w whole) row = ap (λ x. has x row) (sym (chunk_front c.args.count w rows (drop n whole) (omega (arith, long)))) ∙ ap (λ x. has (chunk c.args.count w x) row) (take-append-drop n whole) in
+    any_verdict r.0 w c.args.count rows row _ _ _ c.any.result r.2 (λ a b f' h. search (rules, h)) chunks long wide (λ x h. same_row_true x.now row (search (rules, h))) (λ x h e. let no : same_row x.now row ≡ false = search (rules, h) in false≢true (sym no ∙ (same_row_decides x.now row).1 e)) ∙ front

@@ -1,7 +1,7 @@
 use Rattle.std.proofs.Common.{◌≡◌, ℕ, ◌+◌, ◌*◌, ◌<◌, length, get_or, pos, Ok, Err, sym, ap, ◌∙◌, inl, inr, ⊎_elim, arith, w64, SFits, rules}
 use Rattle.std.proofs.lemmas.List.{get_or_read}
 use Rattle.std.proofs.lemmas.Int.{to_z-of_z}
-use Rattle.std.proofs.lemmas.Result.{err_from_is_err_and}
+use Rattle.store.proofs.Exits.{passed_on}
 use Rattle.directory.proofs.Questions.{cell_refused, cell_outside, cell_answered}
 use Rattle.chained.specs.Chains.{values, nexts, walk, under}
 use Rattle.chained.proofs.Projections.{no_link, value_at, length_values, length_nexts}
@@ -13,8 +13,7 @@ pub returns-in_err-entry : goal.returns-in_err-entry
 returns-in_err-entry c =
     let s = c.args.self.now in
     let h = c.in_err-entry.ensures in
-    let p = err_from_is_err_and c.from_residual.result c.from_residual.ensures.1 in
-    rw (p.1, p.2) (ap Err h.1 ∙ cell_refused s.capacity (entries s) (run s) c.args.table c.args.row c.args.column h.0)
+    passed_on c.from_residual.result _ c.from_residual.ensures.1 ∙ ap Err h.1 ∙ cell_refused s.capacity (entries s) (run s) c.args.table c.args.row c.args.column h.0
 
 pub returns-then-row-entry : goal.returns-then-row-entry
 returns-then-row-entry c =

@@ -1,5 +1,5 @@
 use Rattle.std.proofs.Common.{◌-◌, length, get_or, Err, ap, ◌∙◌, arith}
-use Rattle.std.proofs.lemmas.Result.{err_from_is_err_and}
+use Rattle.store.proofs.Exits.{passed_on}
 use Rattle.store.proofs.Cases.{settle_absent, settle_accepted}
 use Rattle.directory.proofs.Decoding.{length_decode}
 use Rattle.directory.proofs.Settling.{settled_entries, last_read}
@@ -14,8 +14,7 @@ returns-in_err-old c =
     let s = c.args.self.now in
     let h = c.in_err-old.ensures in
     let r = settle_absent (meaning s) c.args.table (omega (arith, h.1.0, length_decode (entries s) (run s))) in
-    let p = err_from_is_err_and c.from_residual.result c.from_residual.ensures.1 in
-    record { reply = rw (p.1, p.2) (ap Err h.1.1 ∙ r.0); after = ap (λ es. chain.chained s.capacity es (chain.values (links s)) (chain.nexts (links s))) h.0 ∙ r.1 }
+    record { reply = passed_on c.from_residual.result _ c.from_residual.ensures.1 ∙ ap Err h.1.1 ∙ r.0; after = ap (λ es. chain.chained s.capacity es (chain.values (links s)) (chain.nexts (links s))) h.0 ∙ r.1 }
 
 pub join-self-requires : goal.join-self-requires
 join-self-requires c =

@@ -1,5 +1,5 @@
 use Rattle.std.proofs.Common.{Err, ap, ◌∙◌}
-use Rattle.std.proofs.lemmas.Result.{err_from_is_err_and}
+use Rattle.store.proofs.Exits.{passed_on}
 use Rattle.directory.proofs.Questions.{width_refused, width_answered}
 use Rattle.chained.proofs.Fields.{entries, run}
 use Rattle.chained.proofs.store_impl.ChainedRowStore.width.Goals as goal
@@ -8,8 +8,7 @@ pub returns-in_err-entry : goal.returns-in_err-entry
 returns-in_err-entry c =
     let s = c.args.self.now in
     let h = c.in_err-entry.ensures in
-    let p = err_from_is_err_and c.from_residual.result c.from_residual.ensures.1 in
-    rw (p.1, p.2) (ap Err h.1 ∙ width_refused s.capacity (entries s) (run s) c.args.table h.0)
+    passed_on c.from_residual.result _ c.from_residual.ensures.1 ∙ ap Err h.1 ∙ width_refused s.capacity (entries s) (run s) c.args.table h.0
 
 pub returns : goal.returns
 returns c =

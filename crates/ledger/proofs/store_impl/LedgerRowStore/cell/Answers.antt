@@ -4,7 +4,7 @@ use Rattle.std.specs.Option.{ok_or}
 use Rattle.std.proofs.lemmas.List.{get_or_read}
 use Rattle.std.proofs.lemmas.Int.{to_z-of_z}
 use Rattle.std.proofs.lemmas.Option.{slice_get_within, get_or_from_slice_get}
-use Rattle.std.proofs.lemmas.Result.{err_from_is_err_and}
+use Rattle.store.proofs.Exits.{passed_on}
 use Rattle.store.specs.Meaning.{no_table}
 use Rattle.store.proofs.Cases.{cell_absent}
 use Rattle.ledger.specs.Lines.{lines_of}
@@ -18,16 +18,14 @@ pub returns-in_err-width : goal.returns-in_err-width
 returns-in_err-width c =
     let s = c.args.self.now in
     let h = c.in_err-width.ensures in
-    let p = err_from_is_err_and c.from_residual.result c.from_residual.ensures.1 in
-    rw (p.1, p.2) (ap Err h.1 ∙ cell_absent (meaning s) c.args.table c.args.row c.args.column (inl (omega (arith, h.0, length_numbered 0 (widths s) (lines s)))))
+    passed_on c.from_residual.result _ c.from_residual.ensures.1 ∙ ap Err h.1 ∙ cell_absent (meaning s) c.args.table c.args.row c.args.column (inl (omega (arith, h.0, length_numbered 0 (widths s) (lines s))))
 
 pub returns-in_err-line : goal.returns-in_err-line
 returns-in_err-line c =
     let s = c.args.self.now in
     let h = c.in_ok-width.ensures in
     let missing = row_missing (lines_of c.args.table (lines s)) c.args.row _ _ (c.in_err-line.ensures.value ∙ ap (λ o. ok_or o c.refuse.result) (c.find_row-line.ensures ∙ ap (λ ls. slice_get (lines_of c.args.table ls) c.args.row) c.deref.ensures.value)) in
-    let p = err_from_is_err_and c.from_residual-in_err-line.result c.from_residual-in_err-line.ensures.1 in
-    rw (p.1, p.2) (ap Err (missing.1 ∙ c.refuse.ensures) ∙ cell_absent (meaning s) c.args.table c.args.row c.args.column (inr (inl (omega (arith, missing.0, rows_counted (widths s) (lines s) c.args.table h.0)))))
+    passed_on c.from_residual-in_err-line.result _ c.from_residual-in_err-line.ensures.1 ∙ ap Err (missing.1 ∙ c.refuse.ensures) ∙ cell_absent (meaning s) c.args.table c.args.row c.args.column (inr (inl (omega (arith, missing.0, rows_counted (widths s) (lines s) c.args.table h.0))))
 
 pub returns-then-column-width : goal.returns-then-column-width
 returns-then-column-width c =

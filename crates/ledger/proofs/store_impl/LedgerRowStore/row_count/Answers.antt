@@ -1,5 +1,5 @@
 use Rattle.std.proofs.Common.{length, Ok, Err, ap, ◌∙◌, arith}
-use Rattle.std.proofs.lemmas.Result.{err_from_is_err_and}
+use Rattle.store.proofs.Exits.{passed_on}
 use Rattle.store.proofs.Cases.{rows_absent, rows_told}
 use Rattle.ledger.specs.Lines.{lines_of}
 use Rattle.ledger.proofs.Fields.{widths, lines, meaning}
@@ -11,8 +11,7 @@ pub returns-in_err-entry : goal.returns-in_err-entry
 returns-in_err-entry c =
     let s = c.args.self.now in
     let h = c.in_err-entry.ensures in
-    let p = err_from_is_err_and c.from_residual.result c.from_residual.ensures.1 in
-    rw (p.1, p.2) (ap Err h.1 ∙ rows_absent (meaning s) c.args.table (omega (arith, h.0, length_numbered 0 (widths s) (lines s))))
+    passed_on c.from_residual.result _ c.from_residual.ensures.1 ∙ ap Err h.1 ∙ rows_absent (meaning s) c.args.table (omega (arith, h.0, length_numbered 0 (widths s) (lines s)))
 
 pub overflow_cast-result : goal.overflow_cast-result
 overflow_cast-result c =

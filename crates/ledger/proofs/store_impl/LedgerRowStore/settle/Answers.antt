@@ -1,6 +1,6 @@
 use Rattle.std.proofs.Common.{◌≡◌, ℕ, suc, ◌-◌, ◌*◌, ◌<◌, length, get_or, take, set, Err, ap, ◌∙◌, ap₂, arith}
 use Rattle.std.proofs.lemmas.List.{get_or_read, get_or_default, length-set, length-take-le}
-use Rattle.std.proofs.lemmas.Result.{err_from_is_err_and}
+use Rattle.store.proofs.Exits.{passed_on}
 use Rattle.store.proofs.Cases.{settle_absent, settle_accepted}
 use Rattle.store.proofs.Kept.{sound_settle}
 use Rattle.directory.proofs.Settling.{settled_entries, last_read}
@@ -16,8 +16,7 @@ returns-in_err-old c =
     let s = c.args.self.now in
     let h = c.in_err-old.ensures in
     let r = settle_absent (meaning s) c.args.table (omega (arith, h.1.0, length_numbered 0 (widths s) (lines s))) in
-    let p = err_from_is_err_and c.from_residual.result c.from_residual.ensures.1 in
-    record { reply = rw (p.1, p.2) (ap Err h.1.1 ∙ r.0); after = ap (λ ws. written s.capacity ws (lines s)) h.0 ∙ r.1 }
+    record { reply = passed_on c.from_residual.result _ c.from_residual.ensures.1 ∙ ap Err h.1.1 ∙ r.0; after = ap (λ ws. written s.capacity ws (lines s)) h.0 ∙ r.1 }
 
 pub overflow_cast-self : goal.overflow_cast-self
 overflow_cast-self c =

@@ -1,5 +1,5 @@
 use Rattle.std.proofs.Common.{Err, refl, ap, ◌∙◌, arith}
-use Rattle.std.proofs.lemmas.Result.{err_from_is_err_and}
+use Rattle.store.proofs.Exits.{passed_on}
 use Rattle.store.proofs.Cases.{settle_absent, settle_accepted}
 use Rattle.directory.specs.Run.{laid}
 use Rattle.directory.proofs.Decoding.{length_decode}
@@ -12,8 +12,7 @@ returns-in_err-old c =
     let s = c.args.self.now in
     let e = c.in_err-old.ensures in
     let r = settle_absent (meaning s) c.args.table (omega (arith, e.1.0, length_decode (entries s) (run s))) in
-    let p = err_from_is_err_and c.from_residual-in_err-old.result c.from_residual-in_err-old.ensures.1 in
-    record { reply = rw (p.1, p.2) (ap Err e.1.1 ∙ r.0); after = ap (λ es. laid s.capacity es (run s)) e.0 ∙ r.1 }
+    record { reply = passed_on c.from_residual-in_err-old.result _ c.from_residual-in_err-old.ensures.1 ∙ ap Err e.1.1 ∙ r.0; after = ap (λ es. laid s.capacity es (run s)) e.0 ∙ r.1 }
 
 pub overflow_sub-kept : goal.overflow_sub-kept
 overflow_sub-kept c =
