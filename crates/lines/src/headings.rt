@@ -9,22 +9,16 @@ ghost use Rattle.lines.specs.Buffers.{Adds, HasRoom, column_room, heading_room};
 use crate::entries::Entries;
 use crate::writing::Line;
 use listing::names::{letter_byte, title};
-use schema::{Attribute, Kind, Schema};
+use schema::{Attribute, Columns, Kind, Schema};
 
-// The script that the names of attributes are parts of.
-#[derive(Clone, Copy)]
-pub(crate) struct Names<'a> {
-    pub(crate) script: &'a [u8],
-}
-
-impl Entries<Attribute> for Names<'_> {
-    ghost text = { λ names attribute. column_bytes (column_of names.script.now attribute) };
+impl Entries<Attribute> for Columns<'_> {
+    ghost text = { λ columns attribute. column_bytes (column_of columns.text.now attribute) };
 
     ghost room = { column_room };
 
     // A column's name, or `?`, a colon and the letter of its domain.
     fn put(&self, line: &mut Line<'_>, entry: &Attribute) {
-        line.put_all(title(*entry, self.script).unwrap_or(b"?"));
+        line.put_all(title(*entry, self.text).unwrap_or(b"?"));
         line.put(b':');
         line.put(letter_byte(entry.domain));
     }
@@ -37,7 +31,8 @@ impl<'a> Line<'a> {
         ensures bytes { Adds (heading_line (schema_of script.now schema.now)) self.old self.new }
         ensures short { length (heading_line (schema_of script.now schema.now)) ≤ heading_room }
     {
-        self.put_entries(&Names { script }, schema.attributes());
+        let columns = schema.columns(script);
+        self.put_entries(&columns, columns.attributes);
     }
 
     // A format: the letter of an atom's domain, or a table's heading, with the line feed.

@@ -79,253 +79,152 @@ fn first_wrong(trials: &[Trial<'_>]) -> Option<usize>
 mod tests {
     use super::*;
 
+    fn refused(layer: Layer, byte: usize) -> Result<usize, Refusal> {
+        Err(Refusal { layer, byte })
+    }
+
     #[test]
     fn every_byte_replaced_dropped_and_doubled_is_refused_at_its_place(rt: HostRuntime) {
         let trials = [
             Trial {
                 text: b"!a:i,b:s)\n(3,\"x\")\nend\n",
-                expected: Err(Refusal {
-                    layer: Layer::Heading,
-                    byte: 0,
-                }),
+                expected: refused(Layer::Heading, 0),
             },
             Trial {
                 text: b"a:i,b:s)\n(3,\"x\")\nend\n",
-                expected: Err(Refusal {
-                    layer: Layer::Heading,
-                    byte: 0,
-                }),
+                expected: refused(Layer::Heading, 0),
             },
             Trial {
                 text: b"((a:i,b:s)\n(3,\"x\")\nend\n",
-                expected: Err(Refusal {
-                    layer: Layer::Heading,
-                    byte: 1,
-                }),
+                expected: refused(Layer::Heading, 1),
             },
             Trial {
                 text: b"(!:i,b:s)\n(3,\"x\")\nend\n",
-                expected: Err(Refusal {
-                    layer: Layer::Heading,
-                    byte: 1,
-                }),
+                expected: refused(Layer::Heading, 1),
             },
             Trial {
                 text: b"(:i,b:s)\n(3,\"x\")\nend\n",
-                expected: Err(Refusal {
-                    layer: Layer::Heading,
-                    byte: 1,
-                }),
+                expected: refused(Layer::Heading, 1),
             },
             Trial {
                 text: b"(aa:i,b:s)\n(3,\"x\")\nend\n",
-                expected: Err(Refusal {
-                    layer: Layer::Heading,
-                    byte: 2,
-                }),
+                expected: refused(Layer::Heading, 2),
             },
             Trial {
                 text: b"(a!i,b:s)\n(3,\"x\")\nend\n",
-                expected: Err(Refusal {
-                    layer: Layer::Heading,
-                    byte: 2,
-                }),
+                expected: refused(Layer::Heading, 2),
             },
             Trial {
                 text: b"(ai,b:s)\n(3,\"x\")\nend\n",
-                expected: Err(Refusal {
-                    layer: Layer::Heading,
-                    byte: 2,
-                }),
+                expected: refused(Layer::Heading, 2),
             },
             Trial {
                 text: b"(a::i,b:s)\n(3,\"x\")\nend\n",
-                expected: Err(Refusal {
-                    layer: Layer::Heading,
-                    byte: 3,
-                }),
+                expected: refused(Layer::Heading, 3),
             },
             Trial {
                 text: b"(a:!,b:s)\n(3,\"x\")\nend\n",
-                expected: Err(Refusal {
-                    layer: Layer::Heading,
-                    byte: 3,
-                }),
+                expected: refused(Layer::Heading, 3),
             },
             Trial {
                 text: b"(a:,b:s)\n(3,\"x\")\nend\n",
-                expected: Err(Refusal {
-                    layer: Layer::Heading,
-                    byte: 3,
-                }),
+                expected: refused(Layer::Heading, 3),
             },
             Trial {
                 text: b"(a:ii,b:s)\n(3,\"x\")\nend\n",
-                expected: Err(Refusal {
-                    layer: Layer::Heading,
-                    byte: 4,
-                }),
+                expected: refused(Layer::Heading, 4),
             },
             Trial {
                 text: b"(a:i!b:s)\n(3,\"x\")\nend\n",
-                expected: Err(Refusal {
-                    layer: Layer::Heading,
-                    byte: 4,
-                }),
+                expected: refused(Layer::Heading, 4),
             },
             Trial {
                 text: b"(a:ib:s)\n(3,\"x\")\nend\n",
-                expected: Err(Refusal {
-                    layer: Layer::Heading,
-                    byte: 4,
-                }),
+                expected: refused(Layer::Heading, 4),
             },
             Trial {
                 text: b"(a:i,,b:s)\n(3,\"x\")\nend\n",
-                expected: Err(Refusal {
-                    layer: Layer::Heading,
-                    byte: 5,
-                }),
+                expected: refused(Layer::Heading, 5),
             },
             Trial {
                 text: b"(a:i,!:s)\n(3,\"x\")\nend\n",
-                expected: Err(Refusal {
-                    layer: Layer::Heading,
-                    byte: 5,
-                }),
+                expected: refused(Layer::Heading, 5),
             },
             Trial {
                 text: b"(a:i,:s)\n(3,\"x\")\nend\n",
-                expected: Err(Refusal {
-                    layer: Layer::Heading,
-                    byte: 5,
-                }),
+                expected: refused(Layer::Heading, 5),
             },
             Trial {
                 text: b"(a:i,bb:s)\n(3,\"x\")\nend\n",
-                expected: Err(Refusal {
-                    layer: Layer::Heading,
-                    byte: 6,
-                }),
+                expected: refused(Layer::Heading, 6),
             },
             Trial {
                 text: b"(a:i,b!s)\n(3,\"x\")\nend\n",
-                expected: Err(Refusal {
-                    layer: Layer::Heading,
-                    byte: 6,
-                }),
+                expected: refused(Layer::Heading, 6),
             },
             Trial {
                 text: b"(a:i,bs)\n(3,\"x\")\nend\n",
-                expected: Err(Refusal {
-                    layer: Layer::Heading,
-                    byte: 6,
-                }),
+                expected: refused(Layer::Heading, 6),
             },
             Trial {
                 text: b"(a:i,b::s)\n(3,\"x\")\nend\n",
-                expected: Err(Refusal {
-                    layer: Layer::Heading,
-                    byte: 7,
-                }),
+                expected: refused(Layer::Heading, 7),
             },
             Trial {
                 text: b"(a:i,b:!)\n(3,\"x\")\nend\n",
-                expected: Err(Refusal {
-                    layer: Layer::Heading,
-                    byte: 7,
-                }),
+                expected: refused(Layer::Heading, 7),
             },
             Trial {
                 text: b"(a:i,b:)\n(3,\"x\")\nend\n",
-                expected: Err(Refusal {
-                    layer: Layer::Heading,
-                    byte: 7,
-                }),
+                expected: refused(Layer::Heading, 7),
             },
             Trial {
                 text: b"(a:i,b:ss)\n(3,\"x\")\nend\n",
-                expected: Err(Refusal {
-                    layer: Layer::Heading,
-                    byte: 8,
-                }),
+                expected: refused(Layer::Heading, 8),
             },
             Trial {
                 text: b"(a:i,b:s!\n(3,\"x\")\nend\n",
-                expected: Err(Refusal {
-                    layer: Layer::Heading,
-                    byte: 8,
-                }),
+                expected: refused(Layer::Heading, 8),
             },
             Trial {
                 text: b"(a:i,b:s\n(3,\"x\")\nend\n",
-                expected: Err(Refusal {
-                    layer: Layer::Heading,
-                    byte: 8,
-                }),
+                expected: refused(Layer::Heading, 8),
             },
             Trial {
                 text: b"(a:i,b:s))\n(3,\"x\")\nend\n",
-                expected: Err(Refusal {
-                    layer: Layer::Heading,
-                    byte: 9,
-                }),
+                expected: refused(Layer::Heading, 9),
             },
             Trial {
                 text: b"(a:i,b:s)!(3,\"x\")\nend\n",
-                expected: Err(Refusal {
-                    layer: Layer::Heading,
-                    byte: 9,
-                }),
+                expected: refused(Layer::Heading, 9),
             },
             Trial {
                 text: b"(a:i,b:s)(3,\"x\")\nend\n",
-                expected: Err(Refusal {
-                    layer: Layer::Heading,
-                    byte: 9,
-                }),
+                expected: refused(Layer::Heading, 9),
             },
             Trial {
                 text: b"(a:i,b:s)\n\n(3,\"x\")\nend\n",
-                expected: Err(Refusal {
-                    layer: Layer::Row,
-                    byte: 10,
-                }),
+                expected: refused(Layer::Row, 10),
             },
             Trial {
                 text: b"(a:i,b:s)\n!3,\"x\")\nend\n",
-                expected: Err(Refusal {
-                    layer: Layer::Row,
-                    byte: 10,
-                }),
+                expected: refused(Layer::Row, 10),
             },
             Trial {
                 text: b"(a:i,b:s)\n3,\"x\")\nend\n",
-                expected: Err(Refusal {
-                    layer: Layer::Row,
-                    byte: 10,
-                }),
+                expected: refused(Layer::Row, 10),
             },
             Trial {
                 text: b"(a:i,b:s)\n((3,\"x\")\nend\n",
-                expected: Err(Refusal {
-                    layer: Layer::Cell,
-                    byte: 11,
-                }),
+                expected: refused(Layer::Cell, 11),
             },
             Trial {
                 text: b"(a:i,b:s)\n(!,\"x\")\nend\n",
-                expected: Err(Refusal {
-                    layer: Layer::Cell,
-                    byte: 11,
-                }),
+                expected: refused(Layer::Cell, 11),
             },
             Trial {
                 text: b"(a:i,b:s)\n(,\"x\")\nend\n",
-                expected: Err(Refusal {
-                    layer: Layer::Cell,
-                    byte: 11,
-                }),
+                expected: refused(Layer::Cell, 11),
             },
             Trial {
                 text: b"(a:i,b:s)\n(33,\"x\")\nend\n",
@@ -333,45 +232,27 @@ mod tests {
             },
             Trial {
                 text: b"(a:i,b:s)\n(3!\"x\")\nend\n",
-                expected: Err(Refusal {
-                    layer: Layer::Row,
-                    byte: 12,
-                }),
+                expected: refused(Layer::Row, 12),
             },
             Trial {
                 text: b"(a:i,b:s)\n(3\"x\")\nend\n",
-                expected: Err(Refusal {
-                    layer: Layer::Row,
-                    byte: 12,
-                }),
+                expected: refused(Layer::Row, 12),
             },
             Trial {
                 text: b"(a:i,b:s)\n(3,,\"x\")\nend\n",
-                expected: Err(Refusal {
-                    layer: Layer::Cell,
-                    byte: 13,
-                }),
+                expected: refused(Layer::Cell, 13),
             },
             Trial {
                 text: b"(a:i,b:s)\n(3,!x\")\nend\n",
-                expected: Err(Refusal {
-                    layer: Layer::Cell,
-                    byte: 13,
-                }),
+                expected: refused(Layer::Cell, 13),
             },
             Trial {
                 text: b"(a:i,b:s)\n(3,x\")\nend\n",
-                expected: Err(Refusal {
-                    layer: Layer::Cell,
-                    byte: 13,
-                }),
+                expected: refused(Layer::Cell, 13),
             },
             Trial {
                 text: b"(a:i,b:s)\n(3,\"\"x\")\nend\n",
-                expected: Err(Refusal {
-                    layer: Layer::Row,
-                    byte: 15,
-                }),
+                expected: refused(Layer::Row, 15),
             },
             Trial {
                 text: b"(a:i,b:s)\n(3,\"!\")\nend\n",
@@ -387,150 +268,87 @@ mod tests {
             },
             Trial {
                 text: b"(a:i,b:s)\n(3,\"x!)\nend\n",
-                expected: Err(Refusal {
-                    layer: Layer::Cell,
-                    byte: 17,
-                }),
+                expected: refused(Layer::Cell, 17),
             },
             Trial {
                 text: b"(a:i,b:s)\n(3,\"x)\nend\n",
-                expected: Err(Refusal {
-                    layer: Layer::Cell,
-                    byte: 16,
-                }),
+                expected: refused(Layer::Cell, 16),
             },
             Trial {
                 text: b"(a:i,b:s)\n(3,\"x\"\")\nend\n",
-                expected: Err(Refusal {
-                    layer: Layer::Row,
-                    byte: 16,
-                }),
+                expected: refused(Layer::Row, 16),
             },
             Trial {
                 text: b"(a:i,b:s)\n(3,\"x\"!\nend\n",
-                expected: Err(Refusal {
-                    layer: Layer::Row,
-                    byte: 16,
-                }),
+                expected: refused(Layer::Row, 16),
             },
             Trial {
                 text: b"(a:i,b:s)\n(3,\"x\"\nend\n",
-                expected: Err(Refusal {
-                    layer: Layer::Row,
-                    byte: 16,
-                }),
+                expected: refused(Layer::Row, 16),
             },
             Trial {
                 text: b"(a:i,b:s)\n(3,\"x\"))\nend\n",
-                expected: Err(Refusal {
-                    layer: Layer::Row,
-                    byte: 17,
-                }),
+                expected: refused(Layer::Row, 17),
             },
             Trial {
                 text: b"(a:i,b:s)\n(3,\"x\")!end\n",
-                expected: Err(Refusal {
-                    layer: Layer::Row,
-                    byte: 17,
-                }),
+                expected: refused(Layer::Row, 17),
             },
             Trial {
                 text: b"(a:i,b:s)\n(3,\"x\")end\n",
-                expected: Err(Refusal {
-                    layer: Layer::Row,
-                    byte: 17,
-                }),
+                expected: refused(Layer::Row, 17),
             },
             Trial {
                 text: b"(a:i,b:s)\n(3,\"x\")\n\nend\n",
-                expected: Err(Refusal {
-                    layer: Layer::Row,
-                    byte: 18,
-                }),
+                expected: refused(Layer::Row, 18),
             },
             Trial {
                 text: b"(a:i,b:s)\n(3,\"x\")\n!nd\n",
-                expected: Err(Refusal {
-                    layer: Layer::Row,
-                    byte: 18,
-                }),
+                expected: refused(Layer::Row, 18),
             },
             Trial {
                 text: b"(a:i,b:s)\n(3,\"x\")\nnd\n",
-                expected: Err(Refusal {
-                    layer: Layer::Row,
-                    byte: 18,
-                }),
+                expected: refused(Layer::Row, 18),
             },
             Trial {
                 text: b"(a:i,b:s)\n(3,\"x\")\neend\n",
-                expected: Err(Refusal {
-                    layer: Layer::Row,
-                    byte: 19,
-                }),
+                expected: refused(Layer::Row, 19),
             },
             Trial {
                 text: b"(a:i,b:s)\n(3,\"x\")\ne!d\n",
-                expected: Err(Refusal {
-                    layer: Layer::Row,
-                    byte: 19,
-                }),
+                expected: refused(Layer::Row, 19),
             },
             Trial {
                 text: b"(a:i,b:s)\n(3,\"x\")\ned\n",
-                expected: Err(Refusal {
-                    layer: Layer::Row,
-                    byte: 19,
-                }),
+                expected: refused(Layer::Row, 19),
             },
             Trial {
                 text: b"(a:i,b:s)\n(3,\"x\")\nennd\n",
-                expected: Err(Refusal {
-                    layer: Layer::Row,
-                    byte: 20,
-                }),
+                expected: refused(Layer::Row, 20),
             },
             Trial {
                 text: b"(a:i,b:s)\n(3,\"x\")\nen!\n",
-                expected: Err(Refusal {
-                    layer: Layer::Row,
-                    byte: 20,
-                }),
+                expected: refused(Layer::Row, 20),
             },
             Trial {
                 text: b"(a:i,b:s)\n(3,\"x\")\nen\n",
-                expected: Err(Refusal {
-                    layer: Layer::Row,
-                    byte: 20,
-                }),
+                expected: refused(Layer::Row, 20),
             },
             Trial {
                 text: b"(a:i,b:s)\n(3,\"x\")\nendd\n",
-                expected: Err(Refusal {
-                    layer: Layer::Row,
-                    byte: 21,
-                }),
+                expected: refused(Layer::Row, 21),
             },
             Trial {
                 text: b"(a:i,b:s)\n(3,\"x\")\nend!",
-                expected: Err(Refusal {
-                    layer: Layer::Row,
-                    byte: 21,
-                }),
+                expected: refused(Layer::Row, 21),
             },
             Trial {
                 text: b"(a:i,b:s)\n(3,\"x\")\nend",
-                expected: Err(Refusal {
-                    layer: Layer::Row,
-                    byte: 21,
-                }),
+                expected: refused(Layer::Row, 21),
             },
             Trial {
                 text: b"(a:i,b:s)\n(3,\"x\")\nend\n\n",
-                expected: Err(Refusal {
-                    layer: Layer::Row,
-                    byte: 22,
-                }),
+                expected: refused(Layer::Row, 22),
             },
         ];
         assert_eq!(rt; first_wrong(&trials), None);
@@ -541,24 +359,15 @@ mod tests {
         let trials = [
             Trial {
                 text: b"",
-                expected: Err(Refusal {
-                    layer: Layer::Heading,
-                    byte: 0,
-                }),
+                expected: refused(Layer::Heading, 0),
             },
             Trial {
                 text: b"(a:i,b:s)",
-                expected: Err(Refusal {
-                    layer: Layer::Heading,
-                    byte: 9,
-                }),
+                expected: refused(Layer::Heading, 9),
             },
             Trial {
                 text: b"(a:i,b:s)\r\nend\n",
-                expected: Err(Refusal {
-                    layer: Layer::Heading,
-                    byte: 9,
-                }),
+                expected: refused(Layer::Heading, 9),
             },
             Trial {
                 text: b"(?:i,?:s)\nend\n",
@@ -570,10 +379,7 @@ mod tests {
             },
             Trial {
                 text: b"(a:i,b:s)\n(-9223372036854775809,\"\")\nend\n",
-                expected: Err(Refusal {
-                    layer: Layer::Cell,
-                    byte: 30,
-                }),
+                expected: refused(Layer::Cell, 30),
             },
             Trial {
                 text: b"(a:i,b:s)\n(9223372036854775807,\"\")\nend\n",
@@ -581,24 +387,15 @@ mod tests {
             },
             Trial {
                 text: b"(a:i,b:s)\n(9223372036854775808,\"\")\nend\n",
-                expected: Err(Refusal {
-                    layer: Layer::Cell,
-                    byte: 29,
-                }),
+                expected: refused(Layer::Cell, 29),
             },
             Trial {
                 text: b"(a:i,b:s)\n(-0,\"\")\nend\n",
-                expected: Err(Refusal {
-                    layer: Layer::Cell,
-                    byte: 12,
-                }),
+                expected: refused(Layer::Cell, 12),
             },
             Trial {
                 text: b"(a:i,b:s)\n(01,\"\")\nend\n",
-                expected: Err(Refusal {
-                    layer: Layer::Cell,
-                    byte: 12,
-                }),
+                expected: refused(Layer::Cell, 12),
             },
             Trial {
                 text: b"(a:i,b:s)\n(0,\"\")\n(0,\"\")\nend\n",
@@ -606,31 +403,19 @@ mod tests {
             },
             Trial {
                 text: b"(a:i,b:s)\nend",
-                expected: Err(Refusal {
-                    layer: Layer::Row,
-                    byte: 13,
-                }),
+                expected: refused(Layer::Row, 13),
             },
             Trial {
                 text: b"(a:i,b:s)\nend\n\n",
-                expected: Err(Refusal {
-                    layer: Layer::Row,
-                    byte: 14,
-                }),
+                expected: refused(Layer::Row, 14),
             },
             Trial {
                 text: b"(a:i,b:s)\n(1,\"a\tb\")\nend\n",
-                expected: Err(Refusal {
-                    layer: Layer::Cell,
-                    byte: 15,
-                }),
+                expected: refused(Layer::Cell, 15),
             },
             Trial {
                 text: b"(a:i,b:s)\n(+1,\"\")\nend\n",
-                expected: Err(Refusal {
-                    layer: Layer::Cell,
-                    byte: 11,
-                }),
+                expected: refused(Layer::Cell, 11),
             },
         ];
         assert_eq!(rt; first_wrong(&trials), None);

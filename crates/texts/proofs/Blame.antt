@@ -1,6 +1,5 @@
 -- By which rule a reader refuses: what holds of its refusals, put together as readers are. The reader of a value refuses as a cell, that of a heading as the heading.
 use Rattle.std.proofs.Common.{◌≡◌, ℕ, zero, suc, ◌+◌, ◌-◌, ◌*◌, Bool, true, false, cond, eqb, leb, List, [], ◌∷◌, ◌++◌, Some, None, codes, Option, refl}
-use mathlib.Core.Option as optional
 use Rattle.fault.specs.declared.rules.Rule.{Rule}
 use Rattle.fault.specs.declared.rules.Rule.TheVariants.{WrongHeading, WrongCell}
 use Rattle.domain.specs.declared.Domain.{Domain}
@@ -31,7 +30,7 @@ told_either L true x y h k = h
 told_either L false x y h k = k
 
 -- a refusal of one reader after another is the first one's, or the second one's behind a text of the first
-pub told_after : {A B : Type 0} (L : Rule → List ℕ → Type 0) (F : Format A) (S : optional.Option ℕ → Type 0) (f : Reader A) (g : A → Reader B) (s : List ℕ) →
+pub told_after : {A B : Type 0} (L : Rule → List ℕ → Type 0) (F : Format A) (S : Option ℕ → Type 0) (f : Reader A) (g : A → Reader B) (s : List ℕ) →
     Reads F S f → Told L (f s) → ((a : A) (w front : List ℕ) → s ≡ front ++ w → F a front → Told L (g a w)) → Told L (after f g s)
 told_after {A = A} L F S f g s x h k = go (f s) (x.reads s) h
   where
@@ -70,7 +69,7 @@ only_after {A = A} rule f g h k s = go (f s) (h s)
 pub only_give : {A B : Type 0} (rule : Rule) (h : A → B) (f : Reader A) → Only rule f → Only rule (give h f)
 only_give rule h f k s = told_give (λ other r. other ≡ rule) h (f s) (k s)
 
-pub only_either : {A : Type 0} (rule : Rule) (test : optional.Option ℕ → Bool) (f g : Reader A) → Only rule f → Only rule g → Only rule (either test f g)
+pub only_either : {A : Type 0} (rule : Rule) (test : Option ℕ → Bool) (f g : Reader A) → Only rule f → Only rule g → Only rule (either test f g)
 only_either rule test f g h k s = go (test (first s))
   where
     go : (x : Bool) → Told (λ other r. other ≡ rule) (cond x (f s) (g s))

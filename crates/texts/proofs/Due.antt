@@ -1,6 +1,6 @@
 -- Where a value is due: a row refuses as a cell exactly there, and by what the reader of the value says.
 use Rattle.std.proofs.Common.{◌≡◌, ℕ, zero, suc, ◌<◌, ◌≤◌, Bool, true, false, cond, ◌⊎◌, List, [], ◌∷◌, ◌++◌, length, sym, refl, ap, ◌∙◌, subst, ap₂, inl, inr, true≢false, append_assoc, append-nil, arith, length-append}
-use mathlib.Core.Option as optional
+use Rattle.std.proofs.Common.{None}
 use Rattle.fault.specs.declared.rules.Rule.{Rule}
 use Rattle.fault.specs.declared.rules.Rule.TheVariants.{WrongRow, WrongCell}
 use Rattle.domain.specs.declared.Domain.{Domain}
@@ -173,7 +173,7 @@ table_due cs d p t rule r u v =
 abbrev pub read_behind : Domain → Value → Reader Value
 read_behind d v s = cond (may_end d (first s)) (taken v []) (refused WrongCell s)
 
-pub end_ends : (d : Domain) → may_end d optional.none ≡ true
+pub end_ends : (d : Domain) → may_end d None ≡ true
 end_ends Integer = refl
 end_ends String = refl
 end_ends Boolean = refl

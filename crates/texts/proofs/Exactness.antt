@@ -2,7 +2,7 @@
 -- `Stop` says at which next byte the reader leaves off: anywhere for a text that shows its own end, at no digit for an integer.
 use Rattle.std.proofs.Common.{◌≡◌, ℕ, zero, suc, ◌+◌, ◌<◌, ◌≤◌, Bool, true, false, cond, eqb, List, [], ◌∷◌, ◌++◌, length, codes, sym, refl, ap, ◌∙◌, subst, ap₂, inl, inr, true≢false, append_assoc, arith, length-append}
 use mathlib.Core.List.{append_cancel_right, cons≢nil}
-use mathlib.Core.Option.{Option, none, some}
+use Rattle.std.proofs.Common.{Option, None, Some}
 use Rattle.fault.specs.declared.rules.Rule.{Rule}
 use Rattle.texts.specs.Formats.{Format, Word, One, After, Given, Either, Many, Entries, Line, opening, comma, closing}
 use Rattle.texts.specs.Readers.{Reading, Reading.taken, Reading.refused, Reader, first, bind, after, give, either, word, word_on, finish, turns, many, one, one_on, entries, line}
@@ -164,14 +164,14 @@ abbrev pub anywhere : Option ℕ → Type 0
 anywhere o = Unit {0}
 
 abbrev pub at_end : Option ℕ → Type 0
-at_end o = o ≡ none
+at_end o = o ≡ None
 
 -- what begins with a byte, by its first
-pub from_some : (P : List ℕ → Type 0) (b : ℕ) → ((s : List ℕ) → P (b ∷ s)) → (t : List ℕ) → first t ≡ some b → P t
+pub from_some : (P : List ℕ → Type 0) (b : ℕ) → ((s : List ℕ) → P (b ∷ s)) → (t : List ℕ) → first t ≡ Some b → P t
 from_some P b h [] e = absurd (let z : ◌≡◌ {A = ℕ} 0 1 = cc in omega arith)
 from_some P b h (c ∷ t) e = let i : c ≡ b = cc in subst (λ x. P (x ∷ t)) (sym i) (h t)
 
-pub from_none : (P : List ℕ → Type 0) → P [] → (t : List ℕ) → first t ≡ none → P t
+pub from_none : (P : List ℕ → Type 0) → P [] → (t : List ℕ) → first t ≡ None → P t
 from_none P h [] e = h
 from_none P h (c ∷ t) e = absurd (let z : ◌≡◌ {A = ℕ} 0 1 = cc in omega arith)
 
@@ -261,7 +261,7 @@ module _ {A : Type 0} (test : Option ℕ → Bool) (F : Format A) (G : Format (L
     (begins : (a : A) (p r : List ℕ) → F a p → test (first (p ++ r)) ≡ true)
     (closes : (vs : List A) (p r : List ℕ) → G vs p → S (first r) → test (first (p ++ r)) ≡ false)
     (gives_none : (vs : List A) (p : List ℕ) → G vs p → vs ≡ [])
-    (ends : test none ≡ false) where
+    (ends : test None ≡ false) where
   -- a text is not empty, since its first byte passes the test
   takes_some : (a : A) (p : List ℕ) → F a p → 0 < length p
   takes_some a [] t = absurd (true≢false (sym (begins a [] [] t) ∙ ends))
@@ -366,10 +366,10 @@ module _ {A : Type 0} (test : Option ℕ → Bool) (F : Format A) (G : Format (L
 abbrev pub Leads : {A : Type 0} → Format A → (Option ℕ → Bool) → Bool → Type 0
 Leads {A = A} F test x = (a : A) (p r : List ℕ) → F a p → test (first (p ++ r)) ≡ x
 
-pub word_leads : {A : Type 0} (b : ℕ) (w : List ℕ) (a : A) (test : Option ℕ → Bool) (x : Bool) → test (some b) ≡ x → Leads (Word (b ∷ w) a) test x
+pub word_leads : {A : Type 0} (b : ℕ) (w : List ℕ) (a : A) (test : Option ℕ → Bool) (x : Bool) → test (Some b) ≡ x → Leads (Word (b ∷ w) a) test x
 word_leads b w a test x h c p r t = ap (λ z. test (first (z ++ r))) t.1 ∙ h
 
-pub one_leads : (good : ℕ → Bool) (test : Option ℕ → Bool) (x : Bool) → ((b : ℕ) → good b ≡ true → test (some b) ≡ x) → Leads (One good) test x
+pub one_leads : (good : ℕ → Bool) (test : Option ℕ → Bool) (x : Bool) → ((b : ℕ) → good b ≡ true → test (Some b) ≡ x) → Leads (One good) test x
 one_leads good test x h b p r t = ap (λ z. test (first (z ++ r))) t.0 ∙ h b t.1
 
 pub after_leads : {A B : Type 0} {F : Format A} {G : A → Format B} (test : Option ℕ → Bool) (x : Bool) → Leads F test x → Leads (After F G) test x

@@ -1,6 +1,6 @@
 -- The readers of values are exact: each takes just the texts of its values, and refuses at the first byte with which none goes on.
 use Rattle.std.proofs.Common.{◌≡◌, ℕ, zero, suc, ◌+◌, ◌-◌, ◌*◌, ◌≤◌, Bool, true, false, cond, not, ◌&&◌, leb, List, [], ◌∷◌, ◌++◌, pos, neg_ℤ, codes, sym, refl, ap, ◌∙◌, subst, ap₂, inl, inr, arith}
-use mathlib.Core.Option.{Option, some}
+use Rattle.std.proofs.Common.{Option, Some}
 use Rattle.fault.specs.Limits.{string_bytes}
 use Rattle.fault.specs.declared.rules.Rule.TheVariants.{WrongCell}
 use Rattle.domain.specs.declared.Domain.{Domain}
@@ -78,7 +78,7 @@ apart_reads {A = A} a = record {
     go s true e = record { front = []; parts = refl; rest = []; value = a; text = (refl, refl); again = λ u h. ap (λ z. cond z (refused WrongCell u) (taken a u)) (ap next_digit h ∙ e) }
     go s false e = record { front = []; parts = refl; text = (refl, refl); stops = e }
 
-count_leads : (limit : ℕ) (test : Option ℕ → Bool) (x : Bool) → ((b : ℕ) → first_digit b ≡ true → test (some b) ≡ x) → Leads (CountText limit) test x
+count_leads : (limit : ℕ) (test : Option ℕ → Bool) (x : Bool) → ((b : ℕ) → first_digit b ≡ true → test (Some b) ≡ x) → Leads (CountText limit) test x
 count_leads limit test x h = after_leads test x (one_leads first_digit test x h)
 
 pub zero_reads : Reads (Word (codes "0") (pos 0)) no_digit (after (word WrongCell (codes "0") (pos 0)) apart)

@@ -1,7 +1,6 @@
 -- Which rule a refused text breaks, and so which layer refuses it: the heading up to and with its line feed,
 -- the cell where the reader of a value is at work, the row for all else.
-use Rattle.std.specs.Prelude.{◌≡◌, ℕ, Bool, true, false, not, ◌||◌, ◌⊎◌, ◌↔◌, List, [], ◌∷◌, ◌++◌, ◌==◌}
-use Rattle.std.proofs.Math.Option.{Option}
+use Rattle.std.specs.Prelude.{◌≡◌, ℕ, Bool, true, false, not, ◌||◌, ◌⊎◌, ◌↔◌, List, [], ◌∷◌, ◌++◌, ◌==◌, Option}
 use Rattle.fault.specs.declared.rules.Rule.{Rule}
 use Rattle.fault.specs.declared.rules.Rule.TheVariants.{WrongHeading, WrongRow, WrongCell}
 use Rattle.domain.specs.declared.Domain.{Domain}

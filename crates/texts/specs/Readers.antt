@@ -1,7 +1,6 @@
 -- Readers of bytes, and the ways to put them together: one for each way to put formats together.
 -- A reader gives a value and the bytes after its text, or the rule that is broken and the bytes from the refused one on.
-use Rattle.std.specs.Prelude.{ℕ, zero, suc, Bool, true, false, cond, List, [], ◌∷◌, length, ◌==◌}
-use Rattle.std.proofs.Math.Option.{Option, none, some}
+use Rattle.std.specs.Prelude.{ℕ, zero, suc, Bool, true, false, cond, List, [], ◌∷◌, length, ◌==◌, Some, None, Option}
 use Rattle.fault.specs.declared.rules.Rule.{Rule}
 use Rattle.texts.specs.Formats.{opening, comma, closing}
 
@@ -14,8 +13,8 @@ Reader A = List ℕ → Reading A
 
 -- the byte that comes next
 abbrev pub first : List ℕ → Option ℕ
-first [] = none
-first (b ∷ s) = some b
+first [] = None
+first (b ∷ s) = Some b
 
 abbrev pub bind : {A B : Type 0} → Reading A → (A → List ℕ → Reading B) → Reading B
 bind (taken a r) f = f a r

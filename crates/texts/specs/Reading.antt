@@ -1,7 +1,6 @@
 -- The readers of values, headings, rows, tables and atoms, in the order of the format.
 -- Each refuses by its own rule: a value by WrongCell, a heading by WrongHeading, all else by WrongRow.
 use Rattle.std.specs.Prelude.{ℕ, zero, suc, ◌+◌, ◌-◌, ◌*◌, Bool, true, false, cond, List, [], ◌∷◌, ℤ, pos, neg_ℤ, Some, None, codes, Option, ◌==◌, nat_le}
-use Rattle.std.proofs.Math.Option as optional
 use Rattle.fault.specs.Limits.{string_bytes}
 use Rattle.fault.specs.declared.rules.Rule.TheVariants.{WrongHeading, WrongRow, WrongCell}
 use Rattle.words.specs.Letters.{digit, plain}
@@ -12,13 +11,13 @@ use Rattle.texts.specs.Readers.{Reading, Reading.taken, Reading.refused, Reader,
 use Rattle.texts.specs.Language.{Value, Value.integer, Value.string, Value.boolean, first_digit, most, least, quote, shown_name, kind, domains, ending}
 
 -- whether the next byte is b
-abbrev pub next : ℕ → optional.Option ℕ → Bool
-next b optional.none = false
-next b (optional.some c) = c == b
+abbrev pub next : ℕ → Option ℕ → Bool
+next b None = false
+next b (Some c) = c == b
 
-abbrev pub next_digit : optional.Option ℕ → Bool
-next_digit optional.none = false
-next_digit (optional.some b) = digit b
+abbrev pub next_digit : Option ℕ → Bool
+next_digit None = false
+next_digit (Some b) = digit b
 
 -- digits behind the number n, as long as there are any; one that leaves the limit is refused
 abbrev pub further_on : Bool → Bool → ℕ → ℕ → List ℕ → Reading ℕ → Reading ℕ
