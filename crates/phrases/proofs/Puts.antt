@@ -6,7 +6,7 @@ use Rattle.words.specs.Tokens.{Bytes, Place}
 use Rattle.fault.specs.Limits.{nodes as nodes_limit}
 use Rattle.words.specs.Lexing.{end_of}
 use Rattle.words.specs.Views.{spoken, standing}
-use Rattle.phrases.specs.Places.{worth_of, following, Lies, TellsAhead}
+use Rattle.phrases.specs.Places.{following, Lies, TellsAhead}
 use Rattle.grammar.specs.Parts.{Part}
 use Rattle.grammar.specs.Readers.{Outcome, Outcome.found}
 use Rattle.tree.specs.Holds.{Says, node_at, said}
@@ -15,7 +15,7 @@ use Rattle.tree.specs.declared.nodes.Node.{Node}
 use Rattle.tree.specs.declared.nodes.What.{What}
 use Rattle.tree.proofs.Grown.{below_then, beyond_then, below_set, beyond_set, here}
 use Rattle.phrases.specs.declared.parsers.Parser.{Parser}
-use Rattle.phrases.specs.States.{Grounded, tokens_ahead, worth, before, behind, ahead_at, Counted, new_node, Numbers, NumbersOn, Holding, Done, Answers, refused_by}
+use Rattle.phrases.specs.States.{Grounded, tokens_ahead, worth, before, behind, ahead_at, Counted, new_node, NumbersOn, Holding, Done, Answers, refused_by}
 
 pub grounded_counted : (text : Bytes) (ys : List Node) (b c : Parser) → Counted b c → Grounded text ys b → Grounded text c.nodes.now c
 grounded_counted text ys b c e g =
@@ -28,9 +28,6 @@ grounded_counted text ys b c e g =
 pub counted_tokens : (b c : Parser) → Counted b c → tokens_ahead c ≡ tokens_ahead b
 counted_tokens b c e =
     ap (λ l. before (spoken l.token) l.place (behind c)) e.ahead ∙ ap (λ s. before (spoken b.ahead.token) (ahead_at b) (following (standing s))) e.scanner
-
-counted_worth : (b c : Parser) → Counted b c → worth c ≡ worth b
-counted_worth b c e = ap (λ l. worth_of (spoken l.token) (standing c.scanner)) e.ahead ∙ ap (λ s. worth_of (spoken b.ahead.token) (standing s)) e.scanner
 
 -- the arena in which the node was put
 wrote_in : (text : Bytes) (ys : List Node) (b c : Parser) (v : Node) → Grounded text ys b → c.nodes.now ≡ set b.nodes.now b.count v → c.nodes.now ≡ set ys b.count v
@@ -62,12 +59,6 @@ done_put P text o from a b c xs ys w p u i state put root value g below beyond l
       beyond = subst (λ n. Beyond n xs zs) (sym more) (beyond_then b.count (suc b.count) xs ys zs (omega arith) beyond after);
       holds = subst (λ n. P text zs from n i u) (sym more) (subst (λ n. P text zs from (suc b.count) n u) (sym root) (h stays (ap said node) (ap (λ n. n.next) node)));
     }
-
--- the node that is put was paid for
-pub numbers_put : (a b c : Parser) → Counted b c → suc (b.count + worth b) ≤ a.count + worth a → worth b < worth a → a.count ≤ b.count → Numbers a c
-numbers_put a b c e h k l =
-    let n = e.count in let m = counted_worth b c e in
-    record { thrifty = omega (arith, n, m, h); onward = omega (arith, m, k); grown = omega (arith, n, l) }
 
 -- what a function has answered
 pub answered : (P : Holding) (text : Bytes) (o : Outcome) (from : ℕ) (a b : Parser) (xs ys : List Node) (i : ℕ) → Answers P text o from a b xs ys (Ok i) → Done P text o from a b xs ys i
@@ -101,27 +92,9 @@ answers_later P text o q from a b c xs ys zs (Ok i) e below beyond n d =
     }
 answers_later P text o q from a b c xs ys zs (Err f) e below beyond n d = ap (refused_by (end_of text)) e ∙ d
 
--- numbers of a whole by those of its parts
-pub numbers_on : (b c : Parser) (r : Result ℕ Fault) → IfOk r (λ _. Numbers b c) → IfOk r (λ _. NumbersOn b c)
-numbers_on b c (Ok i) n = record { thrifty = n.thrifty; onward = omega (arith, n.onward); grown = omega (arith, n.grown) }
-numbers_on b c (Err f) n = tt
-
-pub numbers_later : (a b c : Parser) (r : Result ℕ Fault) → b.count + worth b ≤ a.count + worth a → worth b < worth a → a.count < b.count → IfOk r (λ _. NumbersOn b c) → IfOk r (λ _. Numbers a c)
-numbers_later a b c (Ok i) h k l n = record { thrifty = omega (arith, h, n.thrifty); onward = omega (arith, k, n.onward); grown = omega (arith, l, n.grown) }
-numbers_later a b c (Err f) h k l n = tt
-
-pub numbers_on_later : (a b c : Parser) (r : Result ℕ Fault) → b.count + worth b ≤ a.count + worth a → worth b ≤ worth a → a.count ≤ b.count → IfOk r (λ _. NumbersOn b c) → IfOk r (λ _. NumbersOn a c)
-numbers_on_later a b c (Ok i) h k l n = record { thrifty = omega (arith, h, n.thrifty); onward = omega (arith, k, n.onward); grown = omega (arith, l, n.grown) }
-numbers_on_later a b c (Err f) h k l n = tt
-
 -- an answer where nothing was read
 pub answers_here : (P : Holding) (text : Bytes) (o : Outcome) (from : ℕ) (a : Parser) (xs : List Node) (i : ℕ) → Grounded text xs a → Answers P text o from a a xs xs (Ok i) → Answers P text o from a a xs a.nodes.now (Ok i)
 answers_here P text o from a xs i g h = subst (λ ys. Answers P text o from a a xs ys (Ok i)) (sym g.entries) h
-
--- a link reads nothing and takes no entry
-pub numbers_on_linked : (b l c : Parser) (r : Result ℕ Fault) → worth l ≡ worth b → l.count ≡ b.count → IfOk r (λ _. NumbersOn l c) → IfOk r (λ _. NumbersOn b c)
-numbers_on_linked b l c (Ok i) w k n = record { thrifty = omega (arith, w, k, n.thrifty); onward = omega (arith, w, n.onward); grown = omega (arith, k, n.grown) }
-numbers_on_linked b l c (Err f) w k n = tt
 
 -- a node is put on top of what is held: what the next call begins with
 pub put_kept : (P : Holding) (text : Bytes) (from : ℕ) (b c : Parser) (xs ys : List Node) (w : What) (p : Place) (u : Part) (i : ℕ) →

@@ -47,19 +47,15 @@ pub faulty_tokens : (s : Spot) (r : Rule) (p : Place) → faulty r p ≡ next s 
 faulty_tokens s r p e = ap broken_in (following_next s ∙ ap (followed following) (sym e))
 
 -- a fault handed on says nothing more
-pub cases_err : {A B : Type 0} (P : A → Type 0) (r : Result A B) (y : B) → r ≡ Err y → IfOk r P
-cases_err P (Ok a) y e = absurd (let z : ◌≡◌ {A = ℕ} 0 1 = cc in omega arith)
-cases_err P (Err b) y e = tt
-
 pub stepped_err : (text : Bytes) (arena : List Node) (a b : Parser) (r : Result (Unit {0}) Fault) (y x : Fault) → r ≡ Err y → y ≡ x → broken_in (behind a) ≡ some x → Stepped text arena a b r
 unfolding Stepped
 stepped_err text arena a b (Ok u) y x e i h = absurd (let z : ◌≡◌ {A = ℕ} 0 1 = cc in omega arith)
 stepped_err text arena a b (Err f) y x e i h = let g : x ≡ f = cc in h ∙ ap some g
 
-pub answers_err : (P : Holding) (text : Bytes) (o : Outcome) (from : ℕ) (a b : Parser) (xs ys : List Node) (r : Result ℕ Fault) (y x : Fault) → r ≡ Err y → y ≡ x → refused_by (end_of text) o ≡ some x → Answers P text o from a b xs ys r
+pub answers_err : (P : Holding) (text : Bytes) (o : Outcome) (from : ℕ) (a b : Parser) (xs ys : List Node) (r : Result ℕ Fault) (x : Fault) → (y : Fault) × (r ≡ Err y) × (y ≡ x) → refused_by (end_of text) o ≡ some x → Answers P text o from a b xs ys r
 unfolding Answers
-answers_err P text o from a b xs ys (Ok u) y x e i h = absurd (let z : ◌≡◌ {A = ℕ} 0 1 = cc in omega arith)
-answers_err P text o from a b xs ys (Err f) y x e i h = let g : x ≡ f = cc in h ∙ ap some g
+answers_err P text o from a b xs ys (Ok u) x (y, e, i) h = absurd (let z : ◌≡◌ {A = ℕ} 0 1 = cc in omega arith)
+answers_err P text o from a b xs ys (Err f) x (y, e, i) h = let g : x ≡ f = cc in h ∙ ap some g
 
 -- the tokens ahead begin at the token ahead, or at the text's end
 place_before : (text : Bytes) (t : Option Terminal) (p : Place) (s : List Token) → TellsAhead text t p → place_in (end_of text) (before t p s) ≡ p

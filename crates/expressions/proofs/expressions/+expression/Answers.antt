@@ -27,19 +27,17 @@ use Rattle.expressions.proofs.expressions.+expression.Goals as goal
 
 pub assigned-returns-in_err-leaf-clause-answer : goal.assigned-returns-in_err-leaf-clause-answer
 assigned-returns-in_err-leaf-clause-answer t c =
-    let y = err_from_is_err_and c.from_residual.result c.from_residual.ensures.1 in
     let a = c.args.parser.now in
     λ text xs g.
-    answers_err _ text _ _ _ _ _ _ _ _ _ y.1 y.2
+    answers_err _ text _ _ _ _ _ _ _ _ (err_from_is_err_and c.from_residual.result c.from_residual.ensures.1)
     (assigned_first (end_of text) c.args.depth (tokens_ahead a) _ (refusal _ text _ _ a c.leaf.new.parser xs c.leaf.new.parser.nodes.now _ (c.in_err-leaf.ensures.answer text _ g)))
 
 pub assigned-returns-in_err-expect-clause-answer : goal.assigned-returns-in_err-expect-clause-answer
 assigned-returns-in_err-expect-clause-answer t c =
-    let y = err_from_is_err_and c.from_residual-in_err-expect.result c.from_residual-in_err-expect.ensures.1 in
     let a = c.args.parser.now in
     λ text xs g.
     let v = answered _ text _ _ a c.leaf.new.parser xs c.leaf.new.parser.nodes.now _ (c.in_ok-leaf.ensures.answer text _ g) in
-    answers_err _ text _ _ _ _ _ _ _ _ _ y.1 y.2
+    answers_err _ text _ _ _ _ _ _ _ _ (err_from_is_err_and c.from_residual-in_err-expect.result c.from_residual-in_err-expect.ensures.1)
     (assigned_second (end_of text) c.args.depth (tokens_ahead a) v.part _ _ v.value (expected_broken text _ _ c.leaf.new.parser c.expect.new.self _ (c.in_err-expect.ensures.step text _ v.grounded)))
 
 pub assigned-returns-clause-answer : goal.assigned-returns-clause-answer
@@ -59,10 +57,9 @@ assigned-returns-clause-answer t c =
 
 pub extended-returns-in_err-leaf-clause-answer : goal.extended-returns-in_err-leaf-clause-answer
 extended-returns-in_err-leaf-clause-answer t c =
-    let y = err_from_is_err_and c.from_residual.result c.from_residual.ensures.1 in
     let a = c.args.parser.now in
     λ text xs g.
-    answers_err _ text _ _ _ _ _ _ _ _ _ y.1 y.2
+    answers_err _ text _ _ _ _ _ _ _ _ (err_from_is_err_and c.from_residual.result c.from_residual.ensures.1)
     (extend_first (end_of text) c.args.depth (tokens_ahead a) _ (refusal _ text _ _ a c.leaf.new.parser xs c.leaf.new.parser.nodes.now _ (c.in_err-leaf.ensures.answer text _ g)))
 
 pub extended-returns-clause-answer : goal.extended-returns-clause-answer
@@ -109,30 +106,27 @@ bracket-returns-clause-answer t c =
 
 pub enclosed-returns-in_err-below-clause-answer : goal.enclosed-returns-in_err-below-clause-answer
 enclosed-returns-in_err-below-clause-answer t c =
-    let y = err_from_is_err_and c.from_residual.result c.from_residual.ensures.1 in
     let a = c.args.parser.now in
     λ text xs g.
-    answers_err _ text _ _ _ _ _ _ _ _ _ y.1 y.2
+    answers_err _ text _ _ _ _ _ _ _ _ (err_from_is_err_and c.from_residual.result c.from_residual.ensures.1)
     (opened_err text _ c.args.depth a c.open.new.self _ (enclosed_behind (wanted_of (wanted.Sign c.args.closing) at origin)) (enclosed_halts (end_of text) (wanted_of (wanted.Sign c.args.closing) at origin)) (c.in_err-below.ensures.step text xs g))
 
 pub enclosed-returns-in_err-inner-clause-answer : goal.enclosed-returns-in_err-inner-clause-answer
 enclosed-returns-in_err-inner-clause-answer t c =
-    let y = err_from_is_err_and c.from_residual-in_err-inner.result c.from_residual-in_err-inner.ensures.1 in
     let a = c.args.parser.now in
     λ text xs g.
     let k = opened_ok text _ c.args.depth c.in_ok-below.below a c.open.new.self (c.in_ok-below.ensures.step text xs g) in
-    answers_err _ text _ _ _ _ _ _ _ _ _ y.1 y.2
+    answers_err _ text _ _ _ _ _ _ _ _ (err_from_is_err_and c.from_residual-in_err-inner.result c.from_residual-in_err-inner.ensures.1)
     (opened_refused (end_of text) c.args.depth c.in_ok-below.below (enclosed_behind (wanted_of (wanted.Sign c.args.closing) at origin)) a c.open.new.self _ k.0 c.requires.token k.2
     (enclosed_first (end_of text) (wanted_of (wanted.Sign c.args.closing) at origin) _ _ _ _ (sign_code c.args.closing) (refusal _ text _ _ c.open.new.self c.expr.new.parser xs c.expr.new.parser.nodes.now _ (c.in_err-inner.ensures.answer text _ k.1))))
 
 pub enclosed-returns-in_err-expect-clause-answer : goal.enclosed-returns-in_err-expect-clause-answer
 enclosed-returns-in_err-expect-clause-answer t c =
-    let y = err_from_is_err_and c.from_residual-in_err-expect.result c.from_residual-in_err-expect.ensures.1 in
     let a = c.args.parser.now in
     λ text xs g.
     let k = opened_ok text _ c.args.depth c.in_ok-below.below a c.open.new.self (c.in_ok-below.ensures.step text xs g) in
     let v = answered _ text _ _ c.open.new.self c.expr.new.parser xs c.expr.new.parser.nodes.now _ (c.in_ok-inner.ensures.answer text _ k.1) in
-    answers_err _ text _ _ _ _ _ _ _ _ _ y.1 y.2
+    answers_err _ text _ _ _ _ _ _ _ _ (err_from_is_err_and c.from_residual-in_err-expect.result c.from_residual-in_err-expect.ensures.1)
     (opened_refused (end_of text) c.args.depth c.in_ok-below.below (enclosed_behind (wanted_of (wanted.Sign c.args.closing) at origin)) a c.open.new.self _ k.0 c.requires.token k.2
     (enclosed_second (end_of text) (wanted_of (wanted.Sign c.args.closing) at origin) _ _ _ v.part _ _ v.value (expected_broken text _ _ c.expr.new.parser c.expect.new.self _ (c.in_err-expect.ensures.step text _ v.grounded))))
 
@@ -158,10 +152,9 @@ expr-returns-clause-answer t c =
 
 pub level-returns-in_err-first-clause-answer : goal.level-returns-in_err-first-clause-answer
 level-returns-in_err-first-clause-answer t c =
-    let y = err_from_is_err_and c.from_residual.result c.from_residual.ensures.1 in
     let a = c.args.parser.now in
     λ text xs g.
-    answers_err _ text _ _ _ _ _ _ _ _ _ y.1 y.2
+    answers_err _ text _ _ _ _ _ _ _ _ (err_from_is_err_and c.from_residual.result c.from_residual.ensures.1)
     (level_first (end_of text) c.args.depth c.args.level (tokens_ahead a) _ (refusal _ text _ _ a c.operand.new.parser xs c.operand.new.parser.nodes.now _ (c.in_err-first.ensures.answer text _ g)))
 
 pub level-returns-clause-answer : goal.level-returns-clause-answer
@@ -190,19 +183,17 @@ more-returns-in-Stop-clause-answer t c =
 
 pub operated-returns-in_err-advance-clause-answer : goal.operated-returns-in_err-advance-clause-answer
 operated-returns-in_err-advance-clause-answer t c =
-    let y = err_from_is_err_and c.from_residual.result c.from_residual.ensures.1 in
     let a = c.args.parser.now in
     λ text xs g from u h.
-    answers_err _ text _ _ _ _ _ _ _ _ _ y.1 y.2
+    answers_err _ text _ _ _ _ _ _ _ _ (err_from_is_err_and c.from_residual.result c.from_residual.ensures.1)
     (take_halts (end_of text) c.args.depth c.args.level c.args.operator u (spoken a.ahead.token) (ahead_at a) (behind a) _ c.requires.takes (stepped_broken text _ a c.advance.new.self _ (c.in_err-advance.ensures.step text xs g)))
 
 pub operated-returns-in_err-right-clause-answer : goal.operated-returns-in_err-right-clause-answer
 operated-returns-in_err-right-clause-answer t c =
-    let y = err_from_is_err_and c.from_residual-in_err-right.result c.from_residual-in_err-right.ensures.1 in
     let a = c.args.parser.now in
     λ text xs g from u h.
     let k = stepped_ok text _ a c.advance.new.self _ (c.in_ok-advance.ensures.step text xs g) in
-    answers_err _ text _ _ _ _ _ _ _ _ _ y.1 y.2
+    answers_err _ text _ _ _ _ _ _ _ _ (err_from_is_err_and c.from_residual-in_err-right.result c.from_residual-in_err-right.ensures.1)
     (take_first (end_of text) c.args.depth c.args.level c.args.operator u (spoken a.ahead.token) (ahead_at a) (behind a) _ c.requires.takes
     (refused_at_lem (end_of text) (operand_reader c.args.depth c.args.level) _ _ _ k.1 (refusal _ text _ _ c.advance.new.self c.operand.new.parser xs c.operand.new.parser.nodes.now _ (c.in_err-right.ensures.answer text _ k.0))))
 
@@ -238,30 +229,27 @@ operated-returns-clause-answer t c =
 
 pub joined-returns-in_err-advance-clause-answer : goal.joined-returns-in_err-advance-clause-answer
 joined-returns-in_err-advance-clause-answer t c =
-    let y = err_from_is_err_and c.from_residual.result c.from_residual.ensures.1 in
     let a = c.args.parser.now in
     λ text xs g from u h.
-    answers_err _ text _ _ _ _ _ _ _ _ _ y.1 y.2
+    answers_err _ text _ _ _ _ _ _ _ _ (err_from_is_err_and c.from_residual.result c.from_residual.ensures.1)
     (join_halts (end_of text) c.args.depth c.args.level u (spoken a.ahead.token) (ahead_at a) (behind a) _ c.requires.takes (stepped_broken text _ a c.advance.new.self _ (c.in_err-advance.ensures.step text xs g)))
 
 pub joined-returns-in_err-condition-clause-answer : goal.joined-returns-in_err-condition-clause-answer
 joined-returns-in_err-condition-clause-answer t c =
-    let y = err_from_is_err_and c.from_residual-in_err-condition.result c.from_residual-in_err-condition.ensures.1 in
     let a = c.args.parser.now in
     λ text xs g from u h.
     let k = stepped_ok text _ a c.advance.new.self _ (c.in_ok-advance.ensures.step text xs g) in
-    answers_err _ text _ _ _ _ _ _ _ _ _ y.1 y.2
+    answers_err _ text _ _ _ _ _ _ _ _ (err_from_is_err_and c.from_residual-in_err-condition.result c.from_residual-in_err-condition.ensures.1)
     (join_first (end_of text) c.args.depth c.args.level u (spoken a.ahead.token) (ahead_at a) (behind a) _ c.requires.takes
     (refused_at_lem (end_of text) (brackets_at any_token c.args.depth) _ _ _ k.1 (refusal _ text _ _ c.advance.new.self c.bracket.new.parser xs c.bracket.new.parser.nodes.now _ (c.in_err-condition.ensures.answer text _ k.0))))
 
 pub joined-returns-in_err-right-clause-answer : goal.joined-returns-in_err-right-clause-answer
 joined-returns-in_err-right-clause-answer t c =
-    let y = err_from_is_err_and c.from_residual-in_err-right.result c.from_residual-in_err-right.ensures.1 in
     let a = c.args.parser.now in
     λ text xs g from u h.
     let k = stepped_ok text _ a c.advance.new.self _ (c.in_ok-advance.ensures.step text xs g) in
     let w = answered _ text _ _ c.advance.new.self c.bracket.new.parser xs c.bracket.new.parser.nodes.now _ (c.in_ok-condition.ensures.answer text _ k.0) in
-    answers_err _ text _ _ _ _ _ _ _ _ _ y.1 y.2
+    answers_err _ text _ _ _ _ _ _ _ _ (err_from_is_err_and c.from_residual-in_err-right.result c.from_residual-in_err-right.ensures.1)
     (join_second (end_of text) c.args.depth c.args.level u (spoken a.ahead.token) (ahead_at a) (behind a) w.part _ _ c.requires.takes (read_at (brackets_at any_token c.args.depth) _ _ _ _ k.1 w.value)
     (refusal _ text _ _ c.bracket.new.parser c.operand.new.parser c.bracket.new.parser.nodes.now c.operand.new.parser.nodes.now _ (c.in_err-right.ensures.answer text _ w.grounded)))
 
@@ -300,19 +288,17 @@ joined-returns-clause-answer t c =
 
 pub negation-returns-in_err-below-clause-answer : goal.negation-returns-in_err-below-clause-answer
 negation-returns-in_err-below-clause-answer t c =
-    let y = err_from_is_err_and c.from_residual.result c.from_residual.ensures.1 in
     let a = c.args.parser.now in
     λ text xs g.
-    answers_err _ text _ _ _ _ _ _ _ _ _ y.1 y.2
+    answers_err _ text _ _ _ _ _ _ _ _ (err_from_is_err_and c.from_residual.result c.from_residual.ensures.1)
     (opened_err text _ c.args.depth a c.open.new.self _ (negation_behind (negation_of c.args.sign)) (negation_halts (end_of text) (negation_of c.args.sign)) (c.in_err-below.ensures.step text xs g))
 
 pub negation-returns-in_err-operand-clause-answer : goal.negation-returns-in_err-operand-clause-answer
 negation-returns-in_err-operand-clause-answer t c =
-    let y = err_from_is_err_and c.from_residual-in_err-operand.result c.from_residual-in_err-operand.ensures.1 in
     let a = c.args.parser.now in
     λ text xs g.
     let k = opened_ok text _ c.args.depth c.in_ok-below.below a c.open.new.self (c.in_ok-below.ensures.step text xs g) in
-    answers_err _ text _ _ _ _ _ _ _ _ _ y.1 y.2
+    answers_err _ text _ _ _ _ _ _ _ _ (err_from_is_err_and c.from_residual-in_err-operand.result c.from_residual-in_err-operand.ensures.1)
     (opened_refused (end_of text) c.args.depth c.in_ok-below.below (negation_behind (negation_of c.args.sign)) a c.open.new.self _ k.0 c.requires.token k.2
     (negation_first (end_of text) (negation_of c.args.sign) _ _ _ _ (refusal _ text _ _ c.open.new.self c.factor.new.parser xs c.factor.new.parser.nodes.now _ (c.in_err-operand.ensures.answer text _ k.1))))
 
@@ -336,55 +322,50 @@ negation-returns-clause-answer t c =
 
 pub unary-returns-in_err-below-clause-answer : goal.unary-returns-in_err-below-clause-answer
 unary-returns-in_err-below-clause-answer t c =
-    let y = err_from_is_err_and c.from_residual.result c.from_residual.ensures.1 in
     let a = c.args.parser.now in
     λ text xs g.
-    answers_err _ text _ _ _ _ _ _ _ _ _ y.1 y.2
+    answers_err _ text _ _ _ _ _ _ _ _ (err_from_is_err_and c.from_residual.result c.from_residual.ensures.1)
     (opened_err text _ c.args.depth a c.open.new.self _ (unary_behind (unary_of c.args.operator)) (unary_halts (end_of text) (unary_of c.args.operator)) (c.in_err-below.ensures.step text xs g))
 
 pub unary-returns-in_err-expect-clause-answer : goal.unary-returns-in_err-expect-clause-answer
 unary-returns-in_err-expect-clause-answer t c =
-    let y = err_from_is_err_and c.from_residual-in_err-expect.result c.from_residual-in_err-expect.ensures.1 in
     let a = c.args.parser.now in
     λ text xs g.
     let k = opened_ok text _ c.args.depth c.in_ok-below.below a c.open.new.self (c.in_ok-below.ensures.step text xs g) in
-    answers_err _ text _ _ _ _ _ _ _ _ _ y.1 y.2
+    answers_err _ text _ _ _ _ _ _ _ _ (err_from_is_err_and c.from_residual-in_err-expect.result c.from_residual-in_err-expect.ensures.1)
     (opened_refused (end_of text) c.args.depth c.in_ok-below.below (unary_behind (unary_of c.args.operator)) a c.open.new.self _ k.0 c.requires.token k.2
     (unary_first (end_of text) c.args.operator _ _ _ _ (expected_broken text _ _ c.open.new.self c.expect.new.self _ (c.in_err-expect.ensures.step text xs k.1))))
 
 pub unary-returns-in_err-argument-clause-answer : goal.unary-returns-in_err-argument-clause-answer
 unary-returns-in_err-argument-clause-answer t c =
-    let y = err_from_is_err_and c.from_residual-in_err-argument.result c.from_residual-in_err-argument.ensures.1 in
     let a = c.args.parser.now in
     λ text xs g.
     let k = opened_ok text _ c.args.depth c.in_ok-below.below a c.open.new.self (c.in_ok-below.ensures.step text xs g) in
     let x = expected_ok text _ _ c.open.new.self c.expect.new.self _ (c.in_ok-expect.ensures.step text xs k.1) in
-    answers_err _ text _ _ _ _ _ _ _ _ _ y.1 y.2
+    answers_err _ text _ _ _ _ _ _ _ _ (err_from_is_err_and c.from_residual-in_err-argument.result c.from_residual-in_err-argument.ensures.1)
     (opened_refused (end_of text) c.args.depth c.in_ok-below.below (unary_behind (unary_of c.args.operator)) a c.open.new.self _ k.0 c.requires.token k.2
     (unary_second (end_of text) (unary_of c.args.operator) _ _ _ _ _ _ x.1 (refusal _ text _ _ c.expect.new.self c.inside.new.parser xs c.inside.new.parser.nodes.now _ (c.in_err-argument.ensures.answer text _ x.0))))
 
 pub unary-returns-in_err-expect-2-clause-answer : goal.unary-returns-in_err-expect-2-clause-answer
 unary-returns-in_err-expect-2-clause-answer t c =
-    let y = err_from_is_err_and c.from_residual-in_err-expect-2.result c.from_residual-in_err-expect-2.ensures.1 in
     let a = c.args.parser.now in
     λ text xs g.
     let k = opened_ok text _ c.args.depth c.in_ok-below.below a c.open.new.self (c.in_ok-below.ensures.step text xs g) in
     let x = expected_ok text _ _ c.open.new.self c.expect.new.self _ (c.in_ok-expect.ensures.step text xs k.1) in
     let v = answered _ text _ _ c.expect.new.self c.inside.new.parser xs c.inside.new.parser.nodes.now _ (c.in_ok-argument.ensures.answer text _ x.0) in
-    answers_err _ text _ _ _ _ _ _ _ _ _ y.1 y.2
+    answers_err _ text _ _ _ _ _ _ _ _ (err_from_is_err_and c.from_residual-in_err-expect-2.result c.from_residual-in_err-expect-2.ensures.1)
     (opened_refused (end_of text) c.args.depth c.in_ok-below.below (unary_behind (unary_of c.args.operator)) a c.open.new.self _ k.0 c.requires.token k.2
     (unary_third (end_of text) (unary_of c.args.operator) _ _ _ _ _ v.part _ _ x.1 v.value (expected_broken text _ _ c.inside.new.parser c.expect-2.new.self _ (c.in_err-expect-2.ensures.step text _ v.grounded))))
 
 pub unary-returns-in_err-operand-clause-answer : goal.unary-returns-in_err-operand-clause-answer
 unary-returns-in_err-operand-clause-answer t c =
-    let y = err_from_is_err_and c.from_residual-in_err-operand.result c.from_residual-in_err-operand.ensures.1 in
     let a = c.args.parser.now in
     λ text xs g.
     let k = opened_ok text _ c.args.depth c.in_ok-below.below a c.open.new.self (c.in_ok-below.ensures.step text xs g) in
     let x = expected_ok text _ _ c.open.new.self c.expect.new.self _ (c.in_ok-expect.ensures.step text xs k.1) in
     let v = answered _ text _ _ c.expect.new.self c.inside.new.parser xs c.inside.new.parser.nodes.now _ (c.in_ok-argument.ensures.answer text _ x.0) in
     let w = expected_ok text _ _ c.inside.new.parser c.expect-2.new.self _ (c.in_ok-expect-2.ensures.step text _ v.grounded) in
-    answers_err _ text _ _ _ _ _ _ _ _ _ y.1 y.2
+    answers_err _ text _ _ _ _ _ _ _ _ (err_from_is_err_and c.from_residual-in_err-operand.result c.from_residual-in_err-operand.ensures.1)
     (opened_refused (end_of text) c.args.depth c.in_ok-below.below (unary_behind (unary_of c.args.operator)) a c.open.new.self _ k.0 c.requires.token k.2
     (unary_fourth (end_of text) (unary_of c.args.operator) _ _ _ _ _ v.part _ _ _ _ x.1 v.value w.1 (refusal _ text _ _ c.expect-2.new.self c.factor.new.parser c.inside.new.parser.nodes.now c.factor.new.parser.nodes.now _ (c.in_err-operand.ensures.answer text _ w.0))))
 

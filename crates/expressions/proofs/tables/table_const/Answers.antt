@@ -20,29 +20,26 @@ use Rattle.expressions.proofs.tables.table_const.Goals as goal
 
 pub returns-in_err-advance-clause-answer : goal.returns-in_err-advance-clause-answer
 returns-in_err-advance-clause-answer c =
-    let y = err_from_is_err_and c.from_residual.result c.from_residual.ensures.1 in
     let a = c.args.parser.now in
     λ text xs g.
-    answers_err _ text _ _ _ _ _ _ _ _ _ y.1 y.2
+    answers_err _ text _ _ _ _ _ _ _ _ (err_from_is_err_and c.from_residual.result c.from_residual.ensures.1)
     (table_halts (end_of text) c.args.depth (spoken a.ahead.token) (ahead_at a) (behind a) _ c.requires.token (stepped_broken text _ a c.advance.new.self _ (c.in_err-advance.ensures.step text xs g)))
 
 pub returns-in_err-first-clause-answer : goal.returns-in_err-first-clause-answer
 returns-in_err-first-clause-answer c =
-    let y = err_from_is_err_and c.from_residual-in_err-first.result c.from_residual-in_err-first.ensures.1 in
     let a = c.args.parser.now in
     λ text xs g.
     let k = stepped_ok text _ a c.advance.new.self _ (c.in_ok-advance.ensures.step text xs g) in
-    answers_err _ text _ _ _ _ _ _ _ _ _ y.1 y.2
+    answers_err _ text _ _ _ _ _ _ _ _ (err_from_is_err_and c.from_residual-in_err-first.result c.from_residual-in_err-first.ensures.1)
     (table_first (end_of text) c.args.depth (spoken a.ahead.token) (ahead_at a) (behind a) (eqb (code_in (sign LeftParenthesis)) (code_ahead (spoken c.advance.new.self.ahead.token))) _ c.requires.token (begins_is (spoken c.advance.new.self.ahead.token) (ahead_at c.advance.new.self) (behind c.advance.new.self) ∙ ap (begins_with left_parenthesis) k.1) (refused_at_lem (end_of text) (read_level (item_reader c.args.depth (listed_of (instance_of (eqb (code_in (sign LeftParenthesis)) (code_ahead (spoken c.advance.new.self.ahead.token)))))) (brackets_at any_token c.args.depth) (list_level (listed_of (instance_of (eqb (code_in (sign LeftParenthesis)) (code_ahead (spoken c.advance.new.self.ahead.token))))))) _ _ _ k.1 (refusal _ text _ _ c.advance.new.self c.elements.new.parser xs c.elements.new.parser.nodes.now _ (instance_answers c.args.depth text (listed_of c.instance-instance.result) (listed_of (instance_of (eqb (code_in (sign LeftParenthesis)) (code_ahead (spoken c.advance.new.self.ahead.token))))) (tokens_ahead c.advance.new.self) c.advance.new.self.count c.advance.new.self c.elements.new.parser xs c.elements.new.parser.nodes.now _ (ap listed_of c.instance-instance.ensures) (c.in_err-first.ensures.answer c.args.depth text _ k.0)))))
 
 pub returns-in_err-expect-clause-answer : goal.returns-in_err-expect-clause-answer
 returns-in_err-expect-clause-answer c =
-    let y = err_from_is_err_and c.from_residual-in_err-expect.result c.from_residual-in_err-expect.ensures.1 in
     let a = c.args.parser.now in
     λ text xs g.
     let k = stepped_ok text _ a c.advance.new.self _ (c.in_ok-advance.ensures.step text xs g) in
     let v = answered _ text _ _ c.advance.new.self c.elements.new.parser xs c.elements.new.parser.nodes.now _ (instance_answers c.args.depth text (listed_of c.instance-instance.result) (listed_of (instance_of (eqb (code_in (sign LeftParenthesis)) (code_ahead (spoken c.advance.new.self.ahead.token))))) (tokens_ahead c.advance.new.self) c.advance.new.self.count c.advance.new.self c.elements.new.parser xs c.elements.new.parser.nodes.now _ (ap listed_of c.instance-instance.ensures) (c.in_ok-first.ensures.answer c.args.depth text _ k.0)) in
-    answers_err _ text _ _ _ _ _ _ _ _ _ y.1 y.2
+    answers_err _ text _ _ _ _ _ _ _ _ (err_from_is_err_and c.from_residual-in_err-expect.result c.from_residual-in_err-expect.ensures.1)
     (table_second (end_of text) c.args.depth (spoken a.ahead.token) (ahead_at a) (behind a) (eqb (code_in (sign LeftParenthesis)) (code_ahead (spoken c.advance.new.self.ahead.token))) v.part _ _ c.requires.token (begins_is (spoken c.advance.new.self.ahead.token) (ahead_at c.advance.new.self) (behind c.advance.new.self) ∙ ap (begins_with left_parenthesis) k.1) (read_at (read_level (item_reader c.args.depth (listed_of (instance_of (eqb (code_in (sign LeftParenthesis)) (code_ahead (spoken c.advance.new.self.ahead.token)))))) (brackets_at any_token c.args.depth) (list_level (listed_of (instance_of (eqb (code_in (sign LeftParenthesis)) (code_ahead (spoken c.advance.new.self.ahead.token))))))) _ _ _ _ k.1 v.value) (expected_broken text _ _ c.elements.new.parser c.expect.new.self _ (c.in_err-expect.ensures.step text _ v.grounded)))
 
 pub returns-clause-answer : goal.returns-clause-answer

@@ -13,10 +13,9 @@ use Rattle.phrases.proofs.leaves.leaf.Goals as goal
 
 pub returns-in_err-advance-in-Some-clause-answer : goal.returns-in_err-advance-in-Some-clause-answer
 returns-in_err-advance-in-Some-clause-answer c =
-    let y = err_from_is_err_and c.from_residual.result c.from_residual.ensures.1 in
     λ text xs g.
     let h = leaf_found text _ _ _ _ _ g.lies.small g.tells c.in-Some.ensures in
-    answers_err _ _ _ _ _ _ _ _ _ _ _ y.1 y.2 (found_broken _ _ _ _ _ h.1 (stepped_broken _ _ _ _ _ (c.in_err-advance-in-Some.ensures.step text xs g)))
+    answers_err _ _ _ _ _ _ _ _ _ _ (err_from_is_err_and c.from_residual.result c.from_residual.ensures.1) (found_broken _ _ _ _ _ h.1 (stepped_broken _ _ _ _ _ (c.in_err-advance-in-Some.ensures.step text xs g)))
 
 pub returns-in_ok-advance-in-Some-clause-answer : goal.returns-in_ok-advance-in-Some-clause-answer
 returns-in_ok-advance-in-Some-clause-answer c =

@@ -26,19 +26,17 @@ returns-then-not-sees-clause-answer g t c =
 
 pub returns-in_err-advance-clause-answer : goal.returns-in_err-advance-clause-answer
 returns-in_err-advance-clause-answer g t c =
-    let y = err_from_is_err_and c.from_residual.result c.from_residual.ensures.1 in
     let a = c.args.parser.now in
-    λ l w n text xs gr from u h. answers_err _ text _ _ _ _ _ _ _ _ _ y.1 y.2
+    λ l w n text xs gr from u h. answers_err _ text _ _ _ _ _ _ _ _ (err_from_is_err_and c.from_residual.result c.from_residual.ensures.1)
     (more_halts (end_of text) n l u (spoken a.ahead.token) (ahead_at a) (behind a) _ (sym c.sees.ensures ∙ c.if-not-sees.false) (stepped_broken text _ a c.advance.new.self _ (c.in_err-advance.ensures.step text xs gr)))
 
 pub returns-in_err-next-clause-answer : goal.returns-in_err-next-clause-answer
 returns-in_err-next-clause-answer g t c =
-    let y = err_from_is_err_and c.from_residual-in_err-next.result c.from_residual-in_err-next.ensures.1 in
     let a = c.args.parser.now in
     let b = c.advance.new.self in
     λ l w n text xs gr from u h.
     let k = stepped_ok text _ a b _ (c.in_ok-advance.ensures.step text xs gr) in
-    answers_err _ text _ _ _ _ _ _ _ _ _ y.1 y.2
+    answers_err _ text _ _ _ _ _ _ _ _ (err_from_is_err_and c.from_residual-in_err-next.result c.from_residual-in_err-next.ensures.1)
     (more_first (end_of text) n l u (spoken a.ahead.token) (ahead_at a) (behind a) _ (sym c.sees.ensures ∙ c.if-not-sees.false)
     (refused_at_lem (end_of text) (item_reader n l) _ _ _ k.1 (refusal _ text _ _ b c.item.new.arg2 xs c.item.new.arg2.nodes.now _ (w.follows _ _ _ c.in_err-next.ensures n text _ k.0))))
 

@@ -9,15 +9,13 @@ use Rattle.phrases.proofs.lists.attr_decl.Goals as goal
 
 pub returns-in_err-domain-clause-answer : goal.returns-in_err-domain-clause-answer
 returns-in_err-domain-clause-answer c =
-    let y = err_from_is_err_and c.from_residual.result c.from_residual.ensures.1 in
-    λ text xs g. answers_err _ _ _ _ _ _ _ _ _ _ _ y.1 y.2 (attribute_first _ _ _ (refusal _ _ _ _ _ _ _ _ _ (c.in_err-domain.ensures.answer text _ g)))
+    λ text xs g. answers_err _ _ _ _ _ _ _ _ _ _ (err_from_is_err_and c.from_residual.result c.from_residual.ensures.1) (attribute_first _ _ _ (refusal _ _ _ _ _ _ _ _ _ (c.in_err-domain.ensures.answer text _ g)))
 
 pub returns-in_err-name-clause-answer : goal.returns-in_err-name-clause-answer
 returns-in_err-name-clause-answer c =
-    let y = err_from_is_err_and c.from_residual-in_err-name.result c.from_residual-in_err-name.ensures.1 in
     λ text xs g.
     let d = answered _ _ _ _ _ _ _ _ _ (c.in_ok-domain.ensures.answer text _ g) in
-    answers_err _ _ _ _ _ _ _ _ _ _ _ y.1 y.2 (attribute_second _ _ _ _ _ d.value (refusal _ _ _ _ _ _ _ _ _ (c.in_err-name.ensures.answer text _ d.grounded)))
+    answers_err _ _ _ _ _ _ _ _ _ _ (err_from_is_err_and c.from_residual-in_err-name.result c.from_residual-in_err-name.ensures.1) (attribute_second _ _ _ _ _ d.value (refusal _ _ _ _ _ _ _ _ _ (c.in_err-name.ensures.answer text _ d.grounded)))
 
 pub returns-clause-answer : goal.returns-clause-answer
 returns-clause-answer c =

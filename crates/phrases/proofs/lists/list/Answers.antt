@@ -7,8 +7,7 @@ use Rattle.phrases.proofs.lists.list.Goals as goal
 
 pub returns-in_err-first-clause-answer : goal.returns-in_err-first-clause-answer
 returns-in_err-first-clause-answer g c =
-    let y = err_from_is_err_and c.from_residual.result c.from_residual.ensures.1 in
-    λ d h n text xs z. answers_err _ _ _ _ _ _ _ _ _ _ _ y.1 y.2 (list_first _ n d _ _ (refusal _ _ _ _ _ _ _ _ _ (h.follows _ _ _ c.in_err-first.ensures n text _ z)))
+    λ d h n text xs z. answers_err _ _ _ _ _ _ _ _ _ _ (err_from_is_err_and c.from_residual.result c.from_residual.ensures.1) (list_first _ n d _ _ (refusal _ _ _ _ _ _ _ _ _ (h.follows _ _ _ c.in_err-first.ensures n text _ z)))
 
 pub returns-clause-answer : goal.returns-clause-answer
 returns-clause-answer g c =

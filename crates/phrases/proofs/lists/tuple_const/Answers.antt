@@ -12,29 +12,26 @@ use Rattle.phrases.proofs.lists.tuple_const.Goals as goal
 
 pub returns-in_err-expect-clause-answer : goal.returns-in_err-expect-clause-answer
 returns-in_err-expect-clause-answer c =
-    let y = err_from_is_err_and c.from_residual.result c.from_residual.ensures.1 in
-    λ n text xs g. answers_err _ text _ _ _ _ _ _ _ _ _ y.1 y.2 (tuple_first (end_of text) n _ _ (expected_broken text _ _ c.args.parser.now c.expect.new.self _ (c.in_err-expect.ensures.step text xs g)))
+    λ n text xs g. answers_err _ text _ _ _ _ _ _ _ _ (err_from_is_err_and c.from_residual.result c.from_residual.ensures.1) (tuple_first (end_of text) n _ _ (expected_broken text _ _ c.args.parser.now c.expect.new.self _ (c.in_err-expect.ensures.step text xs g)))
 
 pub returns-in_err-first-clause-answer : goal.returns-in_err-first-clause-answer
 returns-in_err-first-clause-answer c =
-    let y = err_from_is_err_and c.from_residual-in_err-first.result c.from_residual-in_err-first.ensures.1 in
     let a = c.args.parser.now in
     let b = c.expect.new.self in
     λ n text xs g.
     let k = expected_ok text _ _ a b _ (c.in_ok-expect.ensures.step text xs g) in
-    answers_err _ text _ _ _ _ _ _ _ _ _ y.1 y.2
+    answers_err _ text _ _ _ _ _ _ _ _ (err_from_is_err_and c.from_residual-in_err-first.result c.from_residual-in_err-first.ensures.1)
     (tuple_second (end_of text) n _ _ _ _ k.1 (refusal _ text _ _ b c.list.new.parser xs c.list.new.parser.nodes.now _ (c.in_err-first.ensures.answer listed_constants (record { follows = λ p q r e n. search rules }) n text _ k.0)))
 
 pub returns-in_err-expect-2-clause-answer : goal.returns-in_err-expect-2-clause-answer
 returns-in_err-expect-2-clause-answer c =
-    let y = err_from_is_err_and c.from_residual-in_err-expect-2.result c.from_residual-in_err-expect-2.ensures.1 in
     let a = c.args.parser.now in
     let b = c.expect.new.self in
     let d = c.list.new.parser in
     λ n text xs g.
     let k = expected_ok text _ _ a b _ (c.in_ok-expect.ensures.step text xs g) in
     let v = answered _ text _ _ b d xs c.list.new.parser.nodes.now _ (c.in_ok-first.ensures.answer listed_constants (record { follows = λ p q r e n. search rules }) n text _ k.0) in
-    answers_err _ text _ _ _ _ _ _ _ _ _ y.1 y.2
+    answers_err _ text _ _ _ _ _ _ _ _ (err_from_is_err_and c.from_residual-in_err-expect-2.result c.from_residual-in_err-expect-2.ensures.1)
     (tuple_third (end_of text) n _ _ _ _ _ _ k.1 v.value (expected_broken text _ _ d c.expect-2.new.self _ (c.in_err-expect-2.ensures.step text _ v.grounded)))
 
 pub returns-clause-answer : goal.returns-clause-answer
