@@ -1,5 +1,5 @@
--- What the trials are made of: columns by a letter, over the text `aba`, and the answer of a step in three numbers.
-use Rattle.std.specs.Prelude.{ℕ, ◌==◌, cond, List, ◌++◌, map, take, replicate, length, codes, Ok, Err, Some, None}
+-- What the trials are made of: columns by a letter, over the text `aba`, and the answer of a step in numbers.
+use Rattle.std.specs.Prelude.{ℕ, ◌==◌, cond, List, [], ◌∷◌, ◌++◌, map, take, replicate, length, codes, Ok, Err, Result, Some, None}
 use Rattle.domain.specs.declared.Domain.{Domain}
 use Rattle.domain.specs.declared.Domain.TheVariants.{Integer, String}
 use Rattle.fault.specs.Limits.{columns}
@@ -7,7 +7,7 @@ use Rattle.fault.specs.Rules.{number_of}
 use Rattle.words.specs.Tokens.{Place}
 use Rattle.schema.specs.Columns.{Column}
 use Rattle.typing.specs.Checker.{Answer}
-use Rattle.schema_trials.specs.declared.Outcome.{Outcome}
+use Rattle.schema_trials.specs.declared.Refused.{Refused}
 
 -- the text that spells every name
 abbrev pub text : List ℕ
@@ -31,10 +31,14 @@ column_for letter =
 abbrev pub columns_for : ℕ → List ℕ → List Column
 columns_for integers letters = take columns (replicate integers (nameless Integer) ++ map column_for letters)
 
--- an answer in three numbers: the width of the result, or the number and the byte of the fault
-abbrev pub outcome : Answer (List Column) → Outcome
-outcome (Ok cs) = record { width = length cs; number = 0; byte = 0 }
-outcome (Err f) = record { width = 0; number = number_of f.rule; byte = f.byte }
+-- one column more, if there is room for it
+abbrev pub with_room : List Column → Column → List Column
+with_room cs c = take columns (cs ++ (c ∷ []))
+
+-- an answer as the width of the result, or the number and the byte of the fault
+abbrev pub outcome : Answer (List Column) → Result ℕ Refused
+outcome (Ok cs) = Ok (length cs)
+outcome (Err f) = Err (record { number = number_of f.rule; byte = f.place.byte })
 
 -- a place of the first line
 abbrev pub at_byte : ℕ → Place
