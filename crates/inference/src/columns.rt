@@ -1,5 +1,5 @@
 // What operators make of the columns of their operands.
-ghost use Rattle.std.specs.Prelude.{◌≡◌, ℕ, ◌+◌, ◌≤◌, List, [], ◌∷◌, map, length, Some, Ok};
+ghost use Rattle.std.specs.Prelude.{◌≡◌, [], ◌∷◌, Some, Ok};
 ghost use Rattle.words.specs.Spans.{part_of, bytes_of};
 ghost use Rattle.words.specs.Tokens.{Bytes};
 ghost use Rattle.schema.specs.Columns.{schema_of};

@@ -1,5 +1,5 @@
 // The columns of table constants: of a list of types or of the first tuple, and whether further tuples have the same.
-ghost use Rattle.std.specs.Prelude.{◌≡◌, ℕ, List, map, length, Some, None};
+ghost use Rattle.std.specs.Prelude.{◌≡◌, ℕ, List, map, Some};
 ghost use Rattle.std.specs.Option.{option_map};
 ghost use Rattle.domain.specs.declared.Domain.{Domain as AnyDomain};
 ghost use Rattle.grammar.specs.Tree.{Tuple};

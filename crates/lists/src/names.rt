@@ -1,6 +1,5 @@
 // What a list of names makes of columns: `rename` gives each column a name.
-ghost use Rattle.std.specs.Prelude.{◌≡◌, ℕ, ◌+◌, ◌<◌, ◌≤◌, List, [], ◌++◌, map, length, Some, None, ◌==◌};
-ghost use Rattle.words.specs.Tokens.{Bytes};
+ghost use Rattle.std.specs.Prelude.{◌≡◌, List, length, Some, ◌==◌};
 ghost use Rattle.grammar.specs.Tree.{Name};
 ghost use Rattle.schema.specs.Columns.{schema_of};
 ghost use Rattle.typing.specs.Checker.{renamings};

@@ -1,13 +1,9 @@
 -- Lists of columns, place by place.
-use Rattle.std.proofs.Common.{◌≡◌, ◌-◌, ◌≤◌, ◌≢◌, Bool, true, false, ◌&&◌, eqb, List, [], ◌∷◌, map, length, get_or, take, drop, sym, refl, ap, ◌∙◌, arith}
+use Rattle.std.proofs.Common.{◌≡◌, ◌≢◌, Bool, true, false, ◌&&◌, eqb, List, [], ◌∷◌, map, length, refl, ap, ◌∙◌, arith}
 use Rattle.std.specs.List.{zip, list_all}
 use Rattle.std.proofs.lemmas.Bool.Decides.{nat_tests}
-use Rattle.std.proofs.lemmas.List.{take_rest, drop_more}
 use Rattle.schema.specs.Columns.{Column}
 use Rattle.schema.specs.Sameness.{same_column, same_columns}
-
-pub cut_one : {A : Type 0} (s : List A) (d : A) → 1 ≤ length s → s ≡ get_or s 0 d ∷ take (length s - 1) (drop 1 s)
-cut_one s d h = drop_more s 0 d (omega arith) ∙ ap (λ l. get_or s 0 d ∷ l) (sym (take_rest s 1))
 
 module _ {A B : Type 0} (f : A → Column) (g : B → Column) where
   -- A test of all pairs decides whether lists of one length are the same.

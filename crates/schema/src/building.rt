@@ -1,5 +1,5 @@
 // How schemas are made: empty, and with one attribute more at the end, while there is room.
-ghost use Rattle.std.specs.Prelude.{◌≡◌, ℕ, ◌+◌, ◌-◌, ◌<◌, ◌≤◌, List, [], length};
+ghost use Rattle.std.specs.Prelude.{◌≡◌, [], length};
 ghost use Rattle.std.specs.Option.{option_map};
 ghost use Rattle.fault.specs.Limits.{columns};
 ghost use Rattle.schema.specs.Columns.{held};

@@ -1,6 +1,6 @@
 // When two types are the same: equally many attributes, and one by one the domains agree and the names agree or one is nameless.
 // Each side has its own text, since a supplied heading is compared with a script's schema.
-ghost use Rattle.std.specs.Prelude.{◌≡◌, true, ◌↔◌, List, map, length};
+ghost use Rattle.std.specs.Prelude.{◌≡◌, true, ◌↔◌};
 ghost use Rattle.words.specs.Spans.{bytes_of};
 ghost use Rattle.schema.specs.Columns.{column_of, schema_of};
 ghost use Rattle.schema.specs.Kinds.{type_of};

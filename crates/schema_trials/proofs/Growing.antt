@@ -3,7 +3,7 @@ use Rattle.std.proofs.Common.{◌≡◌, ℕ, ◌+◌, ◌<◌, ◌≤◌, Bool,
 use Rattle.std.specs.Prelude.{replicate}
 use Rattle.std.specs.Option.{option_map, unwrap_or}
 use Rattle.std.proofs.lemmas.Bool.Decides.{nat_tests}
-use Rattle.std.proofs.lemmas.List.{append_assoc, map-append, length-map, length-take, take_all, take_more, take-append-le, replicate_more}
+use Rattle.std.proofs.lemmas.List.{append_assoc, map-append, length-map, length-take, take_all, take_more, take-append-le}
 use Rattle.domain.specs.declared.Domain.TheVariants.{Integer}
 use Rattle.fault.specs.Limits.{columns}
 use Rattle.schema.specs.declared.attributes.Attribute.{Attribute}
@@ -42,10 +42,7 @@ grown_has t s a c r is h = by r (ltb (length (held s)) columns) refl h
         let none_left : columns ≤ length (schema_of t s) = grind (arith, nat_tests, size) in
         sym (take-append-le columns (schema_of t s) (c ∷ []) none_left ∙ take_all columns (schema_of t s) (omega (arith, size, held_few s)))
 
--- One nameless integer more, and one letter more.
-pub integers_more : (n : ℕ) → with_room (take columns (replicate n (nameless Integer))) (nameless Integer) ≡ take columns (replicate (n + 1) (nameless Integer))
-integers_more n = fitting (replicate n (nameless Integer)) (nameless Integer) ∙ ap (take columns) (replicate_more n (nameless Integer))
-
+-- One letter more.
 pub letters_more : (n i letter : ℕ) (letters : List ℕ) → i < length letters → letter ≡ get_or letters i letter → with_room (columns_for n (take i letters)) (column_for letter) ≡ columns_for n (take (i + 1) letters)
 letters_more n i letter letters h at =
     let before = replicate n (nameless Integer) in

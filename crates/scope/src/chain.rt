@@ -1,6 +1,6 @@
 // The scope chain: nested lists of entries, one behind the other in a slice. The outermost begins at 0, each other one at its start.
 // A name is sought from the innermost list outward, in each list the newest entry first.
-ghost use Rattle.std.specs.Prelude.{◌≡◌, ℕ, ◌+◌, ◌-◌, ◌^◌, ◌<◌, ◌≤◌, List, reverse, length, Some, Option as Maybe, slice_index_or};
+ghost use Rattle.std.specs.Prelude.{◌≡◌, ℕ, ◌<◌, List, reverse, length, Some, Option as Maybe, slice_index_or};
 ghost use Rattle.scope.specs.Names.{called, named};
 ghost use Rattle.scope.specs.Chains.{newest_of, position_of, find as found, cut, place_of, Found, Search};
 

@@ -1,5 +1,5 @@
 // How the lists of a chain nest: one more begins while there is room.
-ghost use Rattle.std.specs.Prelude.{◌≡◌, List, [], length};
+ghost use Rattle.std.specs.Prelude.{◌≡◌, []};
 ghost use Rattle.std.specs.Option.{option_map};
 ghost use Rattle.fault.specs.Limits.{depth};
 ghost use Rattle.schema.specs.Building.{with_one};

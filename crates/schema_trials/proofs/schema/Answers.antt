@@ -1,12 +1,7 @@
 use Rattle.std.proofs.Common.{ap, ◌∙◌}
 use Rattle.schema_trials.specs.Trials.{with_room, column_for}
-use Rattle.schema_trials.proofs.Growing.{integers_more, letters_more}
-use Rattle.domain.specs.declared.Domain.TheVariants.{Integer}
-use Rattle.schema_trials.specs.Trials.{nameless}
+use Rattle.schema_trials.proofs.Growing.{letters_more}
 use Rattle.schema_trials.proofs.schema.Goals as goal
-
-pub loop-preserved : goal.loop-preserved
-loop-preserved c = c.grown-schema.ensures ∙ ap (λ cs. with_room cs (nameless Integer)) c.loop.invariant ∙ integers_more c.loop.counter
 
 pub loop-which-preserved : goal.loop-which-preserved
 loop-which-preserved c =
