@@ -1,4 +1,4 @@
-// A line that is written at the start of a lent buffer. The bytes behind it stay as they were.
+// A line that is written at the start of a buffer, which the host lends, so that a line is no `Vec`. The bytes behind it stay as they were.
 ghost use Rattle.std.specs.Prelude.{◌≡◌, ◌+◌, ◌≤◌, [], ◌∷◌, length};
 ghost use Rattle.std.specs.Fmt.{signed_decimal};
 ghost use Rattle.texts.specs.Lines.{string_bytes};

@@ -1,8 +1,9 @@
 // The reader of headings. It compares with the schema that is asked for, and keeps nothing.
-ghost use Rattle.std.specs.Prelude.{◌≡◌, [], map};
+ghost use Rattle.std.specs.Prelude.{◌≡◌, []};
 ghost use Rattle.words.specs.Spans.{bytes_of};
 ghost use Rattle.fault.specs.declared.rules.Rule.TheVariants.{WrongHeading};
 ghost use Rattle.schema.specs.Columns.{column_of, schema_of};
+ghost use Rattle.schema.specs.Spelled.{columns_of};
 ghost use Rattle.texts.specs.Readers.{word, entries};
 ghost use Rattle.texts.specs.Reading.{read_name, read_column, read_heading};
 ghost use Rattle.listing.specs.Seen.{Reads, passed, column_behind};
@@ -10,7 +11,7 @@ ghost use Rattle.listing.specs.Seen.{Reads, passed, column_behind};
 use crate::names::{letter_byte, title};
 use crate::reader::Reader;
 use fault::{Fault, Rule};
-use schema::{Attribute, Schema};
+use schema::{Attribute, Columns, Schema};
 
 impl<'a> Reader<'a> {
     // A column's name or `?`; a column without a name is `?`.
@@ -51,12 +52,12 @@ impl<'a> Reader<'a> {
     }
 
     // The columns with commas between them, and the end of the line.
-    fn columns(&mut self, attributes: &[Attribute], script: &[u8]) -> Result<(), Fault>
-        ensures { Reads (λ s. passed (entries WrongHeading read_column [] (map (column_of script.now) attributes.now) s)) self.old self.new result }
+    fn columns(&mut self, columns: Columns<'_>) -> Result<(), Fault>
+        ensures { Reads (λ s. passed (entries WrongHeading read_column [] (columns_of columns.entry) s)) self.old self.new result }
     {
         let mut separator: &[u8] = b"";
-        for attribute in attributes {
-            self.further_column(separator, *attribute, script)?;
+        for attribute in columns.attributes {
+            self.further_column(separator, *attribute, columns.text)?;
             separator = b",";
         }
         self.word(Rule::WrongHeading, b")\n")
@@ -67,6 +68,6 @@ impl<'a> Reader<'a> {
         ensures { Reads (λ s. passed (read_heading (schema_of script.now schema.now) s)) self.old self.new result }
     {
         self.byte(Rule::WrongHeading, b'(')?;
-        self.columns(schema.attributes(), script)
+        self.columns(schema.columns(script))
     }
 }

@@ -20,6 +20,7 @@ pub fn too_long() -> Fault
 
 impl<'a> Reader<'a> {
     // Passes the rows, `end` and the text's end; how many rows there were.
+    // Counted by hand: a row may be refused, and the reader then stands where it was, so the rows are no iterator.
     fn count_rows(&mut self, schema: &Schema) -> Result<usize, Fault>
         ensures { Reads (λ s. counted (read_body (domains_of (held schema.now)) s)) self.old self.new result }
     {

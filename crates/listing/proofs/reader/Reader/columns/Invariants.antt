@@ -1,6 +1,7 @@
 use Rattle.std.proofs.Common.{◌≡◌, [], map, drop}
 use Rattle.fault.specs.declared.rules.Rule.TheVariants.{WrongHeading}
 use Rattle.schema.specs.Columns.{column_of}
+use Rattle.schema.specs.Spelled.{columns_of}
 use Rattle.texts.specs.Readers.{entries}
 use Rattle.texts.specs.Reading.{read_column}
 use Rattle.listing.specs.Seen.{rest, passed}
@@ -8,5 +9,5 @@ use Rattle.listing.proofs.reader.Reader.columns.Given as goal
 
 abbrev pub invariant-loop-attribute : goal.invariant-loop-attribute
 invariant-loop-attribute l = (l.self.text.now ≡ l.initial.self.text.now) ×
-    (passed (entries WrongHeading read_column l.separator (map (column_of l.script) (drop l.attribute-index l.attributes)) (rest l.self))
-    ≡ passed (entries WrongHeading read_column [] (map (column_of l.script) l.attributes) (rest l.initial.self)))
+    (passed (entries WrongHeading read_column l.separator (map (column_of l.columns.text.now) (drop l.attribute-index l.columns.attributes.now)) (rest l.self))
+    ≡ passed (entries WrongHeading read_column [] (columns_of l.columns) (rest l.initial.self)))
