@@ -1,6 +1,6 @@
 -- What reading a text adds to the strings: each one that has no number yet, once, by first appearance,
 -- as long as there is room for one string more and for its bytes.
-use Rattle.std.specs.Prelude.{ℕ, ◌-◌, cond, ◌&&◌, List, [], ◌∷◌, ◌++◌, length, take, ℤ, pos, Some, None, Option, nat_le}
+use Rattle.std.specs.Prelude.{ℕ, ◌-◌, cond, ◌&&◌, List, [], ◌∷◌, ◌++◌, length, ℤ, pos, Some, None, Option, nat_le}
 use Rattle.fault.specs.Limits.{read_strings, read_bytes}
 use Rattle.texts.specs.Language.{Value, Value.integer, Value.string, Value.boolean}
 use Rattle.pool.specs.declared.fresh.Fresh.{Fresh}
@@ -14,7 +14,7 @@ pub record Learned : Type 0 where
   pub room : Option Room
 
 abbrev pub learned_of : List ℕ → Fresh → Learned
-learned_of text f = record { fresh = parts text (take f.count f.spans); room = f.room }
+learned_of text f = record { fresh = parts text f.spans.items; room = f.room }
 
 -- nothing yet, after so many strings with so many bytes
 abbrev pub nothing_learned : ℕ → ℕ → Learned

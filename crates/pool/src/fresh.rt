@@ -1,8 +1,10 @@
 // The new strings of a text while it is read: parts of that text, and the room that is left for more.
 ghost use Rattle.std.specs.Prelude.{◌≡◌, ◌+◌, ◌≤◌, length};
 ghost use Rattle.std.specs.Option.{ForSome};
+ghost use Rattle.arrayvec.specs.ArrayVec.{array_vec_len};
 ghost use Rattle.fault.specs.Limits.{read_strings};
 
+use arrayvec::ArrayVec;
 use fault::limits::READ_STRINGS;
 use words::Span;
 
@@ -13,13 +15,10 @@ pub struct Room {
     pub(crate) bytes: usize,
 }
 
-// The first `count` spans are the new strings. There is no room any more once a string did not fit.
+// There is no room any more once a string did not fit.
 #[derive(Drop)]
 pub struct Fresh {
-    pub(crate) spans: [Span; READ_STRINGS],
-    pub(crate) count: usize,
+    pub(crate) spans: ArrayVec<Span, READ_STRINGS>,
     pub(crate) room: Option<Room>,
-    ghost all: { length spans ≡ read_strings },
-    ghost counted: { count ≤ read_strings },
-    ghost few: { ForSome room (λ r. count + r.strings ≤ read_strings) },
+    ghost few: { ForSome room (λ r. array_vec_len spans + r.strings ≤ read_strings) },
 }

@@ -8,6 +8,7 @@ ghost use Rattle.pool.specs.Learning.{learned_of, nothing_learned, learn_string,
 use crate::find::find_in;
 use crate::fresh::{Fresh, Room};
 use crate::known::Known;
+use arrayvec::ArrayVec;
 use fault::limits::{COLUMNS, READ_BYTES, READ_STRINGS};
 use lines::shown::part;
 use listing::Cell;
@@ -38,8 +39,7 @@ impl Fresh {
         ensures { (text : List ℕ) → learned_of text result ≡ nothing_learned strings bytes }
     {
         Fresh {
-            spans: [Span { start: 0, len: 0 }; READ_STRINGS],
-            count: 0,
+            spans: ArrayVec::new(),
             room: Some(Room {
                 strings: READ_STRINGS.saturating_sub(strings),
                 bytes: READ_BYTES.saturating_sub(bytes),
@@ -63,7 +63,7 @@ impl Fresh {
         if let Some(number) = known.number(wanted) {
             return Some(number);
         }
-        let i = find_in(source.text, &self.spans[..self.count], wanted)?;
+        let i = find_in(source.text, self.spans.as_slice(), wanted)?;
         Some(1 + known.literals.len() + known.entries.len() + i)
     }
 
@@ -80,8 +80,7 @@ impl Fresh {
         }
         self.room = room.after(wanted);
         if self.room.is_some() {
-            self.spans[self.count] = span;
-            self.count += 1;
+            self.spans.push(span);
         }
     }
 
