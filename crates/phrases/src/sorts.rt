@@ -1,4 +1,4 @@
-// Which phrase is due: a word or sign, a sort of leaf, a sort of list.
+// Which phrase is due: a word or sign, a sort of leaf.
 use words::{Sign, Word};
 
 #[derive(Clone, Copy, Debug, PartialEq, Eq)]
