@@ -14,6 +14,7 @@ pub struct Room {
 }
 
 // The first `count` spans are the new strings. There is no room any more once a string did not fit.
+// An array and a count: the `new` of an `ArrayVec` asks a default of its items, and a span has none.
 #[derive(Drop)]
 pub struct Fresh {
     pub(crate) spans: [Span; READ_STRINGS],
