@@ -42,6 +42,7 @@ impl<'a> Reader<'a> {
         ensures bounds { IfOk result (λ n. (first ≤ n) × (n ≤ limit)) }
         ensures reads { Reads (further limit first) self.old self.new result }
     {
+        // a loop over the reader's own position, which the rules ask for: a refusal leaves it at the byte that is refused
         let mut number = first;
         while let Some(b) = self.peek() {
             if !b.is_ascii_digit() {

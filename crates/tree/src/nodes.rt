@@ -7,6 +7,7 @@ use fault::Place;
 use words::{Comparison, Logic, Product, Span, Sum};
 
 // A case for each case of the tree, with the indexes of its children in the grammar's order; of a list its first element.
+// Indexes and no boxes: the host lends the arena, and nothing here allocates.
 #[derive(Clone, Copy, Debug, PartialEq, Eq)]
 pub enum What {
     Nothing,
@@ -56,7 +57,7 @@ pub struct Node {
     pub next: Option<u16>,
 }
 
-// An entry of the arena that holds no node.
+// An entry of the arena that holds no node. A case and no `Option`: the rules ask for cleared entries in the lent arena.
 pub const EMPTY: Node = Node {
     what: What::Nothing,
     place: Place::NOWHERE,
