@@ -1,12 +1,12 @@
 // Expressions and factors contain each other: the functions below call each other in a cycle, and each call has less text left, or a tighter level.
 // One function for each production, named like it: so the rules ask, also for levels that differ in their operators alone.
-ghost use Rattle.std.specs.Prelude.{◌≡◌, ◌<◌, OnOk};
+ghost use Rattle.std.specs.Prelude.{◌≡◌, ◌<◌};
 ghost use Rattle.words.specs.Views.{spoken};
 ghost use Rattle.grammar.specs.Parts.{argument_of};
 ghost use Rattle.grammar.specs.Promise.{any_token};
 ghost use Rattle.grammar.specs.Readers.{rest, factors_at, brackets_at, expressions_at};
 ghost use Rattle.phrases.specs.Places.{pays_ahead};
-ghost use Rattle.phrases.specs.States.{SameArena, AtToken, Numbers, NumbersOn, Follows, GoesOn, opened};
+ghost use Rattle.phrases.specs.States.{AtToken, Follows, GoesOn, opened};
 ghost use Rattle.grammar.specs.Parts.{Argument.extend_argument};
 ghost use Rattle.expressions.specs.declared.sorts.Level.TheVariants as rank;
 ghost use Rattle.expressions.specs.declared.sorts.Turn.TheVariants as turn;
@@ -26,9 +26,7 @@ use words::Sign;
 // expr → bool-term { (and | or) bool-term }
 #[cycle(expression)]
 pub fn expr(parser: &mut Parser<'_>, depth: u8) -> Result<u16, Fault>
-    ensures lent { SameArena parser.old parser.new }
-    ensures numbers { OnOk result (Numbers parser.old parser.new) }
-    ensures answer { Follows Expressed (expressions_at any_token depth) parser.old parser.new result }
+    ensures { Follows Expressed (expressions_at any_token depth) parser.old parser.new result }
 {
     level(parser, depth, Level::Logic)
 }
@@ -36,9 +34,7 @@ pub fn expr(parser: &mut Parser<'_>, depth: u8) -> Result<u16, Fault>
 // bool-term → comp-term [ (== | != | > | >= | < | <=) comp-term ]
 #[cycle(expression)]
 fn bool_term(parser: &mut Parser<'_>, depth: u8) -> Result<u16, Fault>
-    ensures lent { SameArena parser.old parser.new }
-    ensures numbers { OnOk result (Numbers parser.old parser.new) }
-    ensures answer { Follows Expressed (level_reader depth rank.Comparison) parser.old parser.new result }
+    ensures { Follows Expressed (level_reader depth rank.Comparison) parser.old parser.new result }
 {
     level(parser, depth, Level::Comparison)
 }
@@ -46,9 +42,7 @@ fn bool_term(parser: &mut Parser<'_>, depth: u8) -> Result<u16, Fault>
 // comp-term → low-term { (+ | -) low-term }
 #[cycle(expression)]
 fn comp_term(parser: &mut Parser<'_>, depth: u8) -> Result<u16, Fault>
-    ensures lent { SameArena parser.old parser.new }
-    ensures numbers { OnOk result (Numbers parser.old parser.new) }
-    ensures answer { Follows Expressed (level_reader depth rank.Sum) parser.old parser.new result }
+    ensures { Follows Expressed (level_reader depth rank.Sum) parser.old parser.new result }
 {
     level(parser, depth, Level::Sum)
 }
@@ -56,9 +50,7 @@ fn comp_term(parser: &mut Parser<'_>, depth: u8) -> Result<u16, Fault>
 // low-term → factor { (* | / | join-op) factor }
 #[cycle(expression)]
 fn low_term(parser: &mut Parser<'_>, depth: u8) -> Result<u16, Fault>
-    ensures lent { SameArena parser.old parser.new }
-    ensures numbers { OnOk result (Numbers parser.old parser.new) }
-    ensures answer { Follows Expressed (level_reader depth rank.Product) parser.old parser.new result }
+    ensures { Follows Expressed (level_reader depth rank.Product) parser.old parser.new result }
 {
     level(parser, depth, Level::Product)
 }
@@ -66,9 +58,7 @@ fn low_term(parser: &mut Parser<'_>, depth: u8) -> Result<u16, Fault>
 // An operand, and the operators of the level behind it with theirs.
 #[cycle(expression)]
 fn level(parser: &mut Parser<'_>, depth: u8, level: Level) -> Result<u16, Fault>
-    ensures lent { SameArena parser.old parser.new }
-    ensures numbers { OnOk result (Numbers parser.old parser.new) }
-    ensures answer { Follows Expressed (level_reader depth level) parser.old parser.new result }
+    ensures { Follows Expressed (level_reader depth level) parser.old parser.new result }
 {
     let first = operand(parser, depth, level)?;
     more(parser, depth, level, first)
@@ -77,9 +67,7 @@ fn level(parser: &mut Parser<'_>, depth: u8, level: Level) -> Result<u16, Fault>
 // What stands on either side of an operator of the level.
 #[cycle(expression)]
 fn operand(parser: &mut Parser<'_>, depth: u8, level: Level) -> Result<u16, Fault>
-    ensures lent { SameArena parser.old parser.new }
-    ensures numbers { OnOk result (Numbers parser.old parser.new) }
-    ensures answer { Follows Expressed (operand_reader depth level) parser.old parser.new result }
+    ensures { Follows Expressed (operand_reader depth level) parser.old parser.new result }
 {
     match level {
         Level::Logic => bool_term(parser, depth),
@@ -92,9 +80,7 @@ fn operand(parser: &mut Parser<'_>, depth: u8, level: Level) -> Result<u16, Faul
 // The operators of the level that follow, joined to the left.
 #[cycle(expression)]
 fn more(parser: &mut Parser<'_>, depth: u8, level: Level, left: u16) -> Result<u16, Fault>
-    ensures lent { SameArena parser.old parser.new }
-    ensures numbers { OnOk result (NumbersOn parser.old parser.new) }
-    ensures answer { GoesOn Expressed (rest (operand_reader depth level) (brackets_at any_token depth) (level_of level)) left parser.old parser.new result }
+    ensures { GoesOn Expressed (rest (operand_reader depth level) (brackets_at any_token depth) (level_of level)) left parser.old parser.new result }
 {
     match taken(level, parser.ahead.token) {
         Turn::Stop => Ok(left),
@@ -113,9 +99,7 @@ fn operated(
     operator: Operator,
 ) -> Result<u16, Fault>
     requires takes { turn.Take operator ≡ turn_in level (spoken parser.old.ahead.token) }
-    ensures lent { SameArena parser.old parser.new }
-    ensures numbers { OnOk result (NumbersOn parser.old parser.new) }
-    ensures answer { GoesOn Expressed (rest (operand_reader depth level) (brackets_at any_token depth) (level_of level)) left parser.old parser.new result }
+    ensures { GoesOn Expressed (rest (operand_reader depth level) (brackets_at any_token depth) (level_of level)) left parser.old parser.new result }
 {
     let at = parser.ahead;
     parser.advance()?;
@@ -128,9 +112,7 @@ fn operated(
 #[cycle(expression)]
 fn joined(parser: &mut Parser<'_>, depth: u8, level: Level, left: u16) -> Result<u16, Fault>
     requires takes { turn.Join ≡ turn_in level (spoken parser.old.ahead.token) }
-    ensures lent { SameArena parser.old parser.new }
-    ensures numbers { OnOk result (NumbersOn parser.old parser.new) }
-    ensures answer { GoesOn Expressed (rest (operand_reader depth level) (brackets_at any_token depth) (level_of level)) left parser.old parser.new result }
+    ensures { GoesOn Expressed (rest (operand_reader depth level) (brackets_at any_token depth) (level_of level)) left parser.old parser.new result }
 {
     let at = parser.ahead;
     parser.advance()?;
@@ -143,9 +125,7 @@ fn joined(parser: &mut Parser<'_>, depth: u8, level: Level, left: u16) -> Result
 // factor → unary-op factor | ( expr ) | id | constant
 #[cycle(expression)]
 fn factor(parser: &mut Parser<'_>, depth: u8) -> Result<u16, Fault>
-    ensures lent { SameArena parser.old parser.new }
-    ensures numbers { OnOk result (Numbers parser.old parser.new) }
-    ensures answer { Follows Expressed (factors_at any_token depth) parser.old parser.new result }
+    ensures { Follows Expressed (factors_at any_token depth) parser.old parser.new result }
 {
     match begins(parser.ahead.token) {
         Start::Name => leaf(parser, Leaf::Name),
@@ -162,9 +142,7 @@ fn factor(parser: &mut Parser<'_>, depth: u8) -> Result<u16, Fault>
 #[cycle(expression)]
 fn negation(parser: &mut Parser<'_>, depth: u8, sign: Negation) -> Result<u16, Fault>
     requires token { AtToken parser.old }
-    ensures lent { SameArena parser.old parser.new }
-    ensures numbers { OnOk result (Numbers parser.old parser.new) }
-    ensures answer { Follows Expressed (opened depth (negation_behind (negation_of sign))) parser.old parser.new result }
+    ensures { Follows Expressed (opened depth (negation_behind (negation_of sign))) parser.old parser.new result }
 {
     let at = parser.ahead;
     let below = parser.open(depth)?;
@@ -176,9 +154,7 @@ fn negation(parser: &mut Parser<'_>, depth: u8, sign: Negation) -> Result<u16, F
 #[cycle(expression)]
 fn unary(parser: &mut Parser<'_>, depth: u8, operator: Unary) -> Result<u16, Fault>
     requires token { AtToken parser.old }
-    ensures lent { SameArena parser.old parser.new }
-    ensures numbers { OnOk result (Numbers parser.old parser.new) }
-    ensures answer { Follows Expressed (opened depth (unary_behind (unary_of operator))) parser.old parser.new result }
+    ensures { Follows Expressed (opened depth (unary_behind (unary_of operator))) parser.old parser.new result }
 {
     let at = parser.ahead;
     let below = parser.open(depth)?;
@@ -193,9 +169,7 @@ fn unary(parser: &mut Parser<'_>, depth: u8, operator: Unary) -> Result<u16, Fau
 // What stands in the brackets of an operator.
 #[cycle(expression)]
 fn inside(parser: &mut Parser<'_>, depth: u8, operator: Unary) -> Result<u16, Fault>
-    ensures lent { SameArena parser.old parser.new }
-    ensures numbers { OnOk result (Numbers parser.old parser.new) }
-    ensures answer { Follows (Inside (argument_of (unary_of operator))) (inside_reader depth (argument_of (unary_of operator))) parser.old parser.new result }
+    ensures { Follows (Inside (argument_of (unary_of operator))) (inside_reader depth (argument_of (unary_of operator))) parser.old parser.new result }
 {
     match operator.bracketed() {
         Bracketed::Names => list(parser, |parser| leaf(parser, Leaf::Name)),
@@ -208,9 +182,7 @@ fn inside(parser: &mut Parser<'_>, depth: u8, operator: Unary) -> Result<u16, Fa
 // atomic-type id = expr
 #[cycle(expression)]
 fn extended(parser: &mut Parser<'_>, depth: u8) -> Result<u16, Fault>
-    ensures lent { SameArena parser.old parser.new }
-    ensures numbers { OnOk result (Numbers parser.old parser.new) }
-    ensures answer { Follows (Inside extend_argument) (inside_reader depth extend_argument) parser.old parser.new result }
+    ensures { Follows (Inside extend_argument) (inside_reader depth extend_argument) parser.old parser.new result }
 {
     leaf(parser, Leaf::Type)?;
     assigned(parser, depth)
@@ -219,9 +191,7 @@ fn extended(parser: &mut Parser<'_>, depth: u8) -> Result<u16, Fault>
 // id = expr
 #[cycle(expression)]
 pub fn assigned(parser: &mut Parser<'_>, depth: u8) -> Result<u16, Fault>
-    ensures lent { SameArena parser.old parser.new }
-    ensures numbers { OnOk result (Numbers parser.old parser.new) }
-    ensures answer { Follows Assigned (assigned_reader depth) parser.old parser.new result }
+    ensures { Follows Assigned (assigned_reader depth) parser.old parser.new result }
 {
     leaf(parser, Leaf::Name)?;
     parser.expect(Wanted::Sign(Sign::Assign))?;
@@ -231,9 +201,7 @@ pub fn assigned(parser: &mut Parser<'_>, depth: u8) -> Result<u16, Fault>
 // The bracket of a join or of a specifier: [ expr ]
 #[cycle(expression)]
 pub fn bracket(parser: &mut Parser<'_>, depth: u8) -> Result<u16, Fault>
-    ensures lent { SameArena parser.old parser.new }
-    ensures numbers { OnOk result (Numbers parser.old parser.new) }
-    ensures answer { Follows Expressed (brackets_at any_token depth) parser.old parser.new result }
+    ensures { Follows Expressed (brackets_at any_token depth) parser.old parser.new result }
 {
     if !parser.sees(Wanted::Sign(Sign::LeftBracket)) {
         return Err(parser.refuse(Rule::CannotFollow));
@@ -245,9 +213,7 @@ pub fn bracket(parser: &mut Parser<'_>, depth: u8) -> Result<u16, Fault>
 #[cycle(expression)]
 fn enclosed(parser: &mut Parser<'_>, depth: u8, closing: Sign) -> Result<u16, Fault>
     requires token { AtToken parser.old }
-    ensures lent { SameArena parser.old parser.new }
-    ensures numbers { OnOk result (Numbers parser.old parser.new) }
-    ensures answer { Follows Expressed (opened depth (enclosed_behind (closing_token closing))) parser.old parser.new result }
+    ensures { Follows Expressed (opened depth (enclosed_behind (closing_token closing))) parser.old parser.new result }
 {
     let below = parser.open(depth)?;
     let inner = expr(parser, below)?;

@@ -1,5 +1,5 @@
 // Table constants: tuples, or the types of a table without rows.
-ghost use Rattle.std.specs.Prelude.{◌≡◌, ℕ, OnOk, ◌==◌};
+ghost use Rattle.std.specs.Prelude.{◌≡◌, ℕ, ◌==◌};
 ghost use Rattle.words.specs.Tokens.{Terminal.sign};
 ghost use Rattle.words.specs.declared.tokens.Sign.TheVariants.{LeftParenthesis};
 ghost use Rattle.grammar.specs.Parts.{code_in};
@@ -10,7 +10,7 @@ ghost use Rattle.phrases.specs.Sorts.{level_of, item_reader};
 ghost use Rattle.expressions.specs.Starts.{instance_of, listed_of};
 ghost use Rattle.words.specs.Views.{spoken};
 ghost use Rattle.phrases.specs.Places.{pays_ahead};
-ghost use Rattle.phrases.specs.States.{SameArena, AtToken, code_ahead, Numbers, Follows};
+ghost use Rattle.phrases.specs.States.{AtToken, code_ahead, Follows};
 ghost use Rattle.expressions.specs.Shapes.{Expressed, table_reader};
 
 use crate::sorts::Instance;
@@ -34,9 +34,7 @@ fn instance(parser: &Parser<'_>) -> Instance
 
 // The answer is the first of them.
 fn elements(parser: &mut Parser<'_>, instance: Instance) -> Result<u16, Fault>
-    ensures lent { SameArena parser.old parser.new }
-    ensures numbers { OnOk result (Numbers parser.old parser.new) }
-    ensures answer { (n : ℕ) → let listed = listed_of instance in Follows (Held (level_of listed)) (read_level (item_reader n listed) (brackets_at any_token n) (level_of listed)) parser.old parser.new result }
+    ensures { (n : ℕ) → let listed = listed_of instance in Follows (Held (level_of listed)) (read_level (item_reader n listed) (brackets_at any_token n) (level_of listed)) parser.old parser.new result }
 {
     match instance {
         Instance::Tuples => list(parser, tuple_const),
@@ -47,9 +45,7 @@ fn elements(parser: &mut Parser<'_>, instance: Instance) -> Result<u16, Fault>
 // table-const → { tuple-list | atomic-type-list }
 pub fn table_const(parser: &mut Parser<'_>, depth: u8) -> Result<u16, Fault>
     requires token { AtToken parser.old }
-    ensures lent { SameArena parser.old parser.new }
-    ensures numbers { OnOk result (Numbers parser.old parser.new) }
-    ensures answer { Follows Expressed (table_reader depth) parser.old parser.new result }
+    ensures { Follows Expressed (table_reader depth) parser.old parser.new result }
 {
     let at = parser.ahead;
     parser.advance()?;

@@ -6,7 +6,7 @@ use Rattle.fault.specs.declared.rules.Fault.{Fault}
 use Rattle.phrases.specs.declared.parsers.Parser.{Parser}
 use Rattle.phrases.specs.Held.{Held}
 use Rattle.phrases.specs.Sorts.{Listed, level_of, item_reader}
-use Rattle.phrases.specs.States.{SameArena, Numbers, Follows}
+use Rattle.phrases.specs.States.{SameArena, Numbers, AnswersAs}
 
 -- a reader of elements, as the clauses see it
 abbrev pub Elements : Type 0 → Type 1
@@ -19,4 +19,4 @@ pub record Moves {F : Type 0} (g : Elements F) (f : F) : Type 0 where
 
 -- a call does what the grammar's reader of such elements does
 pub record Reads {F : Type 0} (g : Elements F) (f : F) (listed : Listed) : Type 0 where
-  pub follows : (p q : MutBor Parser) (r : Result ℕ Fault) → g.post f (p, tt) (r, (q, tt)) → (n : ℕ) → Follows (Held (level_of listed)) (item_reader n listed) p.now q.now r
+  pub follows : (p q : MutBor Parser) (r : Result ℕ Fault) → g.post f (p, tt) (r, (q, tt)) → (n : ℕ) → AnswersAs (Held (level_of listed)) (item_reader n listed) p.now q.now r

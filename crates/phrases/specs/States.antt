@@ -1,5 +1,5 @@
 -- The parser's state as the grammar sees it, and what a step of it does.
-use Rattle.std.specs.Prelude.{◌≡◌, ℕ, zero, suc, ◌+◌, ◌<◌, ◌≤◌, List, [], ◌∷◌, Some, None, Ok, Err, Option, Result}
+use Rattle.std.specs.Prelude.{◌≡◌, ℕ, zero, suc, ◌+◌, ◌<◌, ◌≤◌, List, [], ◌∷◌, Some, None, Ok, Err, Option, Result, OnOk}
 use Rattle.std.proofs.Math.Option.{Option as Maybe, none, some}
 use Rattle.fault.specs.declared.rules.Fault.{Fault}
 use Rattle.fault.specs.declared.rules.Rule.{Rule}
@@ -147,11 +147,23 @@ unfoldable pub Answers : Holding → Bytes → Outcome → ℕ → Parser → Pa
 Answers P text o from a b xs ys (Ok i) = Done P text o from a b xs ys i
 Answers P text o from a b xs ys (Err f) = refused_by (end_of text) o ≡ some f
 
--- a function of the parser does what the reader does on the tokens ahead, and puts its nodes into the free entries
-abbrev pub Follows : Holding → Reader → Parser → Parser → Result ℕ Fault → Type 0
-Follows P reader a b r = (text : Bytes) (arena : List Node) → Grounded text arena a → Answers P text (reader (tokens_ahead a)) a.count a b arena b.nodes.now r
+-- a function of the parser answers as the reader does on the tokens ahead, and puts its nodes into the free entries
+abbrev pub AnswersAs : Holding → Reader → Parser → Parser → Result ℕ Fault → Type 0
+AnswersAs P reader a b r = (text : Bytes) (arena : List Node) → Grounded text arena a → Answers P text (reader (tokens_ahead a)) a.count a b arena b.nodes.now r
 
 -- one that goes on from a part which the arena holds, by the index i
-abbrev pub GoesOn : Holding → (Part → Reader) → ℕ → Parser → Parser → Result ℕ Fault → Type 0
-GoesOn P reader i a b r =
+abbrev pub AnswersOn : Holding → (Part → Reader) → ℕ → Parser → Parser → Result ℕ Fault → Type 0
+AnswersOn P reader i a b r =
     (text : Bytes) (arena : List Node) → Grounded text arena a → (from : ℕ) (t : Part) → P text arena from a.count i t → Answers P text (reader t (tokens_ahead a)) from a b arena b.nodes.now r
+
+-- what a function that reads a part does: the same lent arena, a token at least and its nodes paid for, and the reader's answer
+pub record Follows (P : Holding) (reader : Reader) (a b : Parser) (r : Result ℕ Fault) : Type 0 where
+  pub lent : SameArena a b
+  pub numbers : OnOk r (Numbers a b)
+  pub answer : AnswersAs P reader a b r
+
+-- the same of one that goes on, where perhaps no token is read
+pub record GoesOn (P : Holding) (reader : Part → Reader) (i : ℕ) (a b : Parser) (r : Result ℕ Fault) : Type 0 where
+  pub lent : SameArena a b
+  pub numbers : OnOk r (NumbersOn a b)
+  pub answer : AnswersOn P reader i a b r

@@ -5,7 +5,7 @@ ghost use Rattle.words.specs.Views.{spoken};
 ghost use Rattle.phrases.specs.Held.{Held, leaf_level};
 ghost use Rattle.phrases.specs.Leaves.{within, span_of, integer_of, leaf_node};
 ghost use Rattle.phrases.specs.Sorts.{leaf_of, leaf_pays};
-ghost use Rattle.phrases.specs.States.{SameArena, worth, Numbers, Follows};
+ghost use Rattle.phrases.specs.States.{worth, Follows};
 
 use crate::parsers::Parser;
 use crate::sorts::Leaf;
@@ -51,10 +51,8 @@ fn leaf_node(leaf: Leaf, at: Lexeme) -> Option<What>
 
 // The token ahead as a node.
 pub fn leaf(parser: &mut Parser<'_>, leaf: Leaf) -> Result<u16, Fault>
-    ensures lent { SameArena parser.old parser.new }
-    ensures numbers { OnOk result (Numbers parser.old parser.new) }
     ensures spare { OnOk result (parser.new.count + worth parser.new + leaf_pays (leaf_of leaf) ≤ parser.old.count + worth parser.old + 1) }
-    ensures answer { Follows (Held (leaf_level (leaf_of leaf))) (read_leaf (leaf_of leaf)) parser.old parser.new result }
+    ensures follows { Follows (Held (leaf_level (leaf_of leaf))) (read_leaf (leaf_of leaf)) parser.old parser.new result }
 {
     let at = parser.ahead;
     match leaf_node(leaf, at) {

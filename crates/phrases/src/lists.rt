@@ -6,7 +6,7 @@ ghost use Rattle.grammar.specs.Readers.{read_level, rest, read_attribute, read_t
 ghost use Rattle.phrases.specs.Held.{Held};
 ghost use Rattle.phrases.specs.Sorts.{Listed, level_of, item_reader, relinked};
 ghost use Rattle.phrases.specs.Elements.{Moves, Reads};
-ghost use Rattle.phrases.specs.States.{SameArena, Numbers, NumbersOn, Follows, GoesOn};
+ghost use Rattle.phrases.specs.States.{SameArena, Numbers, NumbersOn, Follows, AnswersAs, AnswersOn};
 ghost use Rattle.tree.specs.Holds.{node_at};
 
 use crate::leaves::leaf;
@@ -26,9 +26,7 @@ pub fn link(nodes: &mut [Node], last: u16, next: u16)
 
 // attr-decl → atomic-type id
 pub fn attr_decl(parser: &mut Parser<'_>) -> Result<u16, Fault>
-    ensures lent { SameArena parser.old parser.new }
-    ensures numbers { OnOk result (Numbers parser.old parser.new) }
-    ensures answer { Follows (Held attribute_level) read_attribute parser.old parser.new result }
+    ensures { Follows (Held attribute_level) read_attribute parser.old parser.new result }
 {
     let at = parser.ahead;
     let domain = leaf(parser, Leaf::Type)?;
@@ -38,9 +36,7 @@ pub fn attr_decl(parser: &mut Parser<'_>) -> Result<u16, Fault>
 
 // tuple-const → ( atomic-const { , atomic-const } )
 pub fn tuple_const(parser: &mut Parser<'_>) -> Result<u16, Fault>
-    ensures lent { SameArena parser.old parser.new }
-    ensures numbers { OnOk result (Numbers parser.old parser.new) }
-    ensures answer { (n : ℕ) → Follows (Held tuple_level) (read_tuple (brackets_at any_token n)) parser.old parser.new result }
+    ensures { (n : ℕ) → Follows (Held tuple_level) (read_tuple (brackets_at any_token n)) parser.old parser.new result }
 {
     let at = parser.ahead;
     parser.expect(Wanted::Sign(Sign::LeftParenthesis))?;
@@ -50,6 +46,7 @@ pub fn tuple_const(parser: &mut Parser<'_>) -> Result<u16, Fault>
 }
 
 // A list of one element or more, each read by `item`; the answer is its first.
+// Three clauses and no `Follows`, for only the answer asks that `item` reads as the grammar does.
 pub fn list<F: Fn(&mut Parser<'_>) -> Result<u16, Fault>>(
     parser: &mut Parser<'_>,
     item: F,
@@ -58,7 +55,7 @@ pub fn list<F: Fn(&mut Parser<'_>) -> Result<u16, Fault>>(
     requires moves { Moves F.Fn item }
     ensures lent { SameArena parser.old parser.new }
     ensures numbers { OnOk result (Numbers parser.old parser.new) }
-    ensures answer { (listed : Listed) → Reads F.Fn item listed → (n : ℕ) → Follows (Held (level_of listed)) (read_level (item_reader n listed) (brackets_at any_token n) (level_of listed)) parser.old parser.new result }
+    ensures answer { (listed : Listed) → Reads F.Fn item listed → (n : ℕ) → AnswersAs (Held (level_of listed)) (read_level (item_reader n listed) (brackets_at any_token n) (level_of listed)) parser.old parser.new result }
 {
     let first = item(parser)?;
     more_items(parser, item, first)
@@ -75,7 +72,7 @@ fn more_items<F: Fn(&mut Parser<'_>) -> Result<u16, Fault>>(
     requires moves { Moves F.Fn item }
     ensures lent { SameArena parser.old parser.new }
     ensures numbers { OnOk result (NumbersOn parser.old parser.new) }
-    ensures answer { (listed : Listed) → Reads F.Fn item listed → (n : ℕ) → GoesOn (Held (level_of listed)) (rest (item_reader n listed) (brackets_at any_token n) (level_of listed)) first parser.old parser.new result }
+    ensures answer { (listed : Listed) → Reads F.Fn item listed → (n : ℕ) → AnswersOn (Held (level_of listed)) (rest (item_reader n listed) (brackets_at any_token n) (level_of listed)) first parser.old parser.new result }
 {
     if !parser.sees(Wanted::Sign(Sign::Comma)) {
         return Ok(first);
