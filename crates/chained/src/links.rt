@@ -2,7 +2,7 @@
 ghost use Rattle.std.specs.Prelude.{◌≡◌, ◌≤◌, true, map, pos, length, IfOk};
 ghost use Rattle.std.specs.List.{range_with_len};
 ghost use Rattle.fault.specs.Limits.{cells as cell_limit};
-ghost use Rattle.chained.specs.Chains.{nexts, values, walk, step, under, head_of, joined};
+ghost use Rattle.chained.specs.Chains.{nexts, values, walk, step, head_of, joined, Reaches};
 
 use std::alloc::{AllocError, Global};
 
@@ -25,7 +25,7 @@ pub(crate) fn free_chain(heap: Global, size: u16) -> Result<Vec<Link>, AllocErro
 
 // Where the chain from `from` on is after `count` links.
 pub(crate) fn after(links: &[Link], from: u16, count: usize) -> u16
-    requires { under (length links.now) (walk (nexts links.now) count from) ≡ true }
+    requires { Reaches links.now count from }
     ensures { result ≡ step (nexts links.now) count from }
 {
     let mut at = from;
@@ -37,7 +37,7 @@ pub(crate) fn after(links: &[Link], from: u16, count: usize) -> u16
 
 // The chain of `size` cells from `first` on goes on at `next`. Says where the joined chain begins.
 pub(crate) fn join(links: &mut [Link], first: u16, size: usize, next: u16) -> u16
-    requires { under (length links.old) (walk (nexts links.old) size first) ≡ true }
+    requires { Reaches links.old size first }
     ensures head { result ≡ head_of size first next }
     ensures nexts { nexts links.new ≡ joined (nexts links.old) size first next }
     ensures values { values links.new ≡ values links.old }

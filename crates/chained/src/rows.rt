@@ -2,13 +2,13 @@
 ghost use Rattle.std.specs.Prelude.{◌≡◌, ◌*◌, true, length};
 ghost use Rattle.store.specs.Meaning.{same_row, has};
 ghost use Rattle.directory.specs.Run.{chunk};
-ghost use Rattle.chained.specs.Chains.{nexts, values, walk, step, gather, under, put};
+ghost use Rattle.chained.specs.Chains.{nexts, values, walk, step, gather, put, Reaches};
 
 use crate::links::{Link, after};
 
 // Whether the cells from `from` on are `row`.
 fn same_row(links: &[Link], from: u16, row: &[i64]) -> bool
-    requires { under (length links.now) (walk (nexts links.now) (length row.now) from) ≡ true }
+    requires { Reaches links.now (length row.now) from }
     ensures { result ≡ same_row (gather (values links.now) (walk (nexts links.now) (length row.now) from)) row.now }
 {
     let mut at = from;
@@ -24,7 +24,7 @@ fn same_row(links: &[Link], from: u16, row: &[i64]) -> bool
 
 // Whether one of the `count` rows that begin at `from` is `row`.
 pub(crate) fn has_row(links: &[Link], from: u16, count: usize, row: &[i64]) -> bool
-    requires { under (length links.now) (walk (nexts links.now) (count * length row.now) from) ≡ true }
+    requires { Reaches links.now (count * length row.now) from }
     ensures { result ≡ has (chunk count (length row.now) (gather (values links.now) (walk (nexts links.now) (count * length row.now) from))) row.now }
 {
     let mut at = from;
@@ -39,7 +39,7 @@ pub(crate) fn has_row(links: &[Link], from: u16, count: usize, row: &[i64]) -> b
 
 // Writes `row` into the cells from `from` on, and says where the chain goes on.
 pub(crate) fn write_row(links: &mut [Link], from: u16, row: &[i64]) -> u16
-    requires { under (length links.old) (walk (nexts links.old) (length row.now) from) ≡ true }
+    requires { Reaches links.old (length row.now) from }
     ensures rest { result ≡ step (nexts links.old) (length row.now) from }
     ensures values { values links.new ≡ put (values links.old) (walk (nexts links.old) (length row.now) from) row.now }
     ensures nexts { nexts links.new ≡ nexts links.old }

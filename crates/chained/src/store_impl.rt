@@ -90,7 +90,7 @@ impl RowStore for Chained {
         Ok(self.links[at as usize].value)
     }
 
-    // A table without rows has no first cell yet.
+    // A table without rows has no first cell yet, and its count says so.
     fn open(&mut self, width: u16) -> Result<(), Fault> {
         let entry = Entry {
             first: 0,

@@ -1,5 +1,6 @@
 // Expressions and factors contain each other: the functions below call each other in a cycle, and each call has less text left, or a tighter level.
 // One function for each production, named like it: so the rules ask, also for levels that differ in their operators alone.
+// Depth and level are two parameters: brackets and tighter levels go on with the depth alone.
 ghost use Rattle.std.specs.Prelude.{◌≡◌, ◌<◌};
 ghost use Rattle.words.specs.Views.{spoken};
 ghost use Rattle.grammar.specs.Parts.{argument_of};

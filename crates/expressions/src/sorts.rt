@@ -26,6 +26,7 @@ pub enum Operator {
 
 #[derive(Clone, Copy)]
 pub enum Turn {
+    // A case and no `Option` around the others, so that one `match` has all that may come.
     Stop,
     Join,
     Take(Operator),
@@ -58,6 +59,7 @@ pub enum Start {
     Unary(Unary),
     Parenthesis,
     Brace,
+    // As `Turn::Stop`.
     Nothing,
 }
 

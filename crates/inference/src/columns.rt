@@ -44,6 +44,7 @@ fn meets(left: Columns, right: Columns) -> bool
 }
 
 // The columns of a join: the left ones, then the right. Too many, or a common name, is a fault at the operator.
+// Schemas and no `Columns`, here and below: the answer is a schema that goes on from the left one.
 pub fn join(left: Schema, right: &Schema, text: &[u8], at: Place) -> Result<Schema, Fault>
     ensures { answered (schema_of text.now) result ≡ together (schema_of text.now left) (schema_of text.now right.now) at }
 {

@@ -20,6 +20,7 @@ pub enum Text {
     Read(Span),
 }
 
+// As a cell of a listing, but for its strings: a generic enum would save these lines, and give every contract a type argument.
 #[derive(Clone, Copy)]
 pub enum Shown {
     Integer(i64),

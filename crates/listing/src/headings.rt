@@ -51,7 +51,7 @@ impl<'a> Reader<'a> {
         self.column(attribute, script)
     }
 
-    // The columns with commas between them, and the end of the line.
+    // The columns with commas between them, and the end of the line. A row's loop keeps the values that it reads, so it is another one.
     fn columns(&mut self, columns: Columns<'_>) -> Result<(), Fault>
         ensures { Reads (λ s. passed (entries WrongHeading read_column [] (columns_of columns.entry) s)) self.old self.new result }
     {

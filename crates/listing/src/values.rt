@@ -22,7 +22,7 @@ fn negated(size: u64) -> i64
     0i64.saturating_sub_unsigned(size)
 }
 
-// How many bytes at the front may stand in a string, as far as a string goes.
+// How many bytes at the front may stand in a string, as far as a string goes. The same bytes as in a script, by one definition.
 fn plain_length(bytes: &[u8]) -> usize
     ensures within { result ≤ length bytes.now }
     ensures few { result ≤ string_bytes }
@@ -42,7 +42,7 @@ impl<'a> Reader<'a> {
         ensures bounds { IfOk result (λ n. (first ≤ n) × (n ≤ limit)) }
         ensures reads { Reads (further limit first) self.old self.new result }
     {
-        // a loop over the reader's own position, which the rules ask for: a refusal leaves it at the byte that is refused
+        // by hand: the reader's own position goes on, and a refusal leaves it at the byte that is refused
         let mut number = first;
         while let Some(b) = self.peek() {
             if !b.is_ascii_digit() {

@@ -20,7 +20,7 @@ pub fn too_long() -> Fault
 
 impl<'a> Reader<'a> {
     // Passes the rows, `end` and the text's end; how many rows there were.
-    // Counted by hand: a row may be refused, and the reader then stands where it was, so the rows are no iterator.
+    // Counted by hand: a row may be refused, and the reader then stands at that byte, so the rows are no iterator.
     fn count_rows(&mut self, schema: &Schema) -> Result<usize, Fault>
         ensures { Reads (λ s. counted (read_body (domains_of (held schema.now)) s)) self.old self.new result }
     {
@@ -43,6 +43,7 @@ impl<'a> Reader<'a> {
 }
 
 // Reads a text for a schema, whose names are parts of the script, and tells how many rows it has; repeated ones count too.
+// The schema and no `Columns`, since its rows are read for the schema without a name.
 pub fn read_table(text: &[u8], schema: &Schema, script: &[u8]) -> Result<usize, Fault>
     ensures reply { result ≡ table_reply (schema_of script.now schema.now) text.now }
     ensures right { length text.now ≤ text_bytes → TellsTable (schema_of script.now schema.now) text.now result }

@@ -45,12 +45,14 @@ fn two_columns() -> Schema
         .unwrap_or(none)
 }
 
-fn refusal_of(fault: Fault) -> Refusal
-    ensures { result ≡ refusal_of fault }
-{
-    Refusal {
-        layer: fault.rule.layer(),
-        byte: fault.place.byte as usize,
+impl From<Fault> for Refusal {
+    ghost from_gives = { λ fault refusal. refusal ≡ refusal_of fault };
+
+    fn from(fault: Fault) -> Refusal {
+        Refusal {
+            layer: fault.rule.layer(),
+            byte: fault.place.byte as usize,
+        }
     }
 }
 
@@ -58,7 +60,7 @@ fn refusal_of(fault: Fault) -> Refusal
 fn answer(text: &[u8]) -> Result<usize, Refusal>
     ensures { result ≡ told (table_reply columns text.now) }
 {
-    read_table(text, &two_columns(), b"ab").map_err(|fault| refusal_of(fault))
+    Ok(read_table(text, &two_columns(), b"ab")?)
 }
 
 // Whether the text is answered as expected.

@@ -28,7 +28,7 @@ pub fn next_of(nodes: &[Node], index: usize) -> Option<usize>
     }
 }
 
-// The elements of a list, link by link.
+// The elements of a list, link by link. Arena and first entry are two parameters where a caller, who walks the tree, has them apart.
 #[derive(Clone, Copy)]
 pub struct Elements<'a> {
     nodes: &'a [Node],

@@ -3,6 +3,7 @@ use Rattle.std.specs.Prelude.{ℕ, ◌==◌, cond, List, [], ◌∷◌, ◌++◌
 use Rattle.domain.specs.declared.Domain.{Domain}
 use Rattle.domain.specs.declared.Domain.TheVariants.{Integer, String}
 use Rattle.fault.specs.Limits.{columns}
+use Rattle.fault.specs.declared.rules.Fault.{Fault}
 use Rattle.fault.specs.Rules.{number_of}
 use Rattle.words.specs.Tokens.{Place}
 use Rattle.schema.specs.Columns.{Column}
@@ -35,10 +36,14 @@ columns_for integers letters = take columns (replicate integers (nameless Intege
 abbrev pub with_room : List Column → Column → List Column
 with_room cs c = take columns (cs ++ (c ∷ []))
 
+-- the number and byte of a fault
+abbrev pub refusal_of : Fault → Refused
+refusal_of f = record { number = number_of f.rule; byte = f.place.byte }
+
 -- an answer as the width of the result, or the number and the byte of the fault
 abbrev pub outcome : Answer (List Column) → Result ℕ Refused
 outcome (Ok cs) = Ok (length cs)
-outcome (Err f) = Err (record { number = number_of f.rule; byte = f.place.byte })
+outcome (Err f) = Err (refusal_of f)
 
 -- a place of the first line
 abbrev pub at_byte : ℕ → Place

@@ -6,7 +6,7 @@ ghost use Rattle.domain.specs.declared.Domain.TheVariants.{Integer};
 ghost use Rattle.schema.specs.Columns.{column_of, schema_of};
 ghost use Rattle.typing.specs.Checker.{together, with_column};
 ghost use Rattle.inference.specs.Views.{answered};
-ghost use Rattle.schema_trials.specs.Trials.{text as names, column_for, columns_for, with_room, outcome, at_byte};
+ghost use Rattle.schema_trials.specs.Trials.{text as names, column_for, columns_for, with_room, refusal_of, outcome, at_byte};
 
 use domain::Domain;
 use fault::limits::COLUMNS;
@@ -74,17 +74,22 @@ pub struct Refused {
     pub byte: u32,
 }
 
+impl From<Fault> for Refused {
+    ghost from_gives = { λ fault refused. refused ≡ refusal_of fault };
+
+    fn from(fault: Fault) -> Refused {
+        Refused {
+            number: fault.rule.number(),
+            byte: fault.place.byte,
+        }
+    }
+}
+
 // What a step answers: the width of its result, or its fault.
 fn outcome(answer: Result<Schema, Fault>) -> Result<usize, Refused>
     ensures { result ≡ outcome (answered (schema_of names) answer) }
 {
-    match answer {
-        Ok(schema) => Ok(schema.width()),
-        Err(fault) => Err(Refused {
-            number: fault.rule.number(),
-            byte: fault.place.byte,
-        }),
-    }
+    Ok(answer?.width())
 }
 
 // A place of the first line.

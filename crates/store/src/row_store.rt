@@ -37,6 +37,7 @@ pub trait RowStore {
         ensures reply { result ≡ open_reply (meaning self.old) width }
         ensures after { meaning self.new ≡ open_after (meaning self.old) width };
 
+    // Rows are as wide as rows can be, in fixed memory, as the rules ask: a shorter one would need its length beside it.
     // Puts a row, the first cells of `row`, at the end of the last table. A row that stands there already is accepted and changes nothing.
     fn add(&mut self, row: &[i64; COLUMNS]) -> Result<(), Fault>
         ensures reply { result ≡ add_reply (meaning self.old) row.now }

@@ -10,7 +10,7 @@ use std::time::Instant;
 use std::{env, io};
 use store::RowStore;
 
-// The row of one column that holds this number.
+// The row of one column that holds this number; store_tests has the same lines, since no library would be plainer for them.
 fn row_of(number: u16) -> [i64; COLUMNS] {
     let mut row = [0i64; COLUMNS];
     row[0] = number as i64;

@@ -49,7 +49,7 @@ impl<'a> Supply<'a> {
     }
 }
 
-// The strings that were read before a text: how many, and their bytes together.
+// The strings that were read before a text: how many, and their bytes together. No `Room`, which is what is left.
 #[derive(Clone, Copy)]
 pub struct Used {
     pub strings: usize,

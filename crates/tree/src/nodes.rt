@@ -24,6 +24,7 @@ pub enum What {
     While(u16, u16),
     Read(u16, u16),
     Write(u16, u16),
+    // An absent specifier is a node as well, so that it is a case and no `Option` inside one.
     NoSpecifier,
     Specifier(u16),
     Name(Span),
@@ -57,7 +58,7 @@ pub struct Node {
     pub next: Option<u16>,
 }
 
-// An entry of the arena that holds no node. A case and no `Option`: the rules ask for cleared entries in the lent arena.
+// An entry of the arena that holds no node, and what is read where there is no entry. A case and no `Option`: the rules ask for cleared entries.
 pub const EMPTY: Node = Node {
     what: What::Nothing,
     place: Place::NOWHERE,
