@@ -28,11 +28,14 @@ pub fn span_said(what: What) -> Option<Span>
     }
 }
 
-// Whether a list has exactly so many elements.
+// Whether a list has exactly so many elements. It is walked no further than to one too many, since it may be as long as the arena.
 fn as_many(nodes: &[Node], first: usize, count: usize) -> bool
     ensures { result ≡ (length (walked nodes.now (Some first)) == count) }
 {
-    Elements::of(nodes, first).count() == count
+    Elements::of(nodes, first)
+        .take(count.saturating_add(1))
+        .count()
+        == count
 }
 
 // One column more, of this domain, under the name that the node has; a name that was given before is a fault.
