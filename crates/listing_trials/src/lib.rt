@@ -15,16 +15,16 @@ use words::Span;
 
 // Which layer refuses a text, and at which byte.
 #[derive(Clone, Copy, Debug, PartialEq, Eq)]
-struct Refusal {
-    layer: Layer,
-    byte: usize,
+pub struct Refusal {
+    pub layer: Layer,
+    pub byte: usize,
 }
 
 // A text is answered by its number of rows, or refused.
 #[derive(Clone, Copy)]
-struct Trial<'a> {
-    text: &'a [u8],
-    expected: Result<usize, Refusal>,
+pub struct Trial<'a> {
+    pub text: &'a [u8],
+    pub expected: Result<usize, Refusal>,
 }
 
 // The schema `(a:i,b:s)` over the script `ab`.
@@ -64,14 +64,14 @@ fn answer(text: &[u8]) -> Result<usize, Refusal>
 }
 
 // Whether the text is answered as expected.
-fn holds(trial: Trial<'_>) -> bool
+pub fn holds(trial: Trial<'_>) -> bool
     ensures { IsTrue result ↔ Holds trial.entry }
 {
     answer(trial.text) == trial.expected
 }
 
 // The first trial that does not hold.
-fn first_wrong(trials: &[Trial<'_>]) -> Option<usize>
+pub fn first_wrong(trials: &[Trial<'_>]) -> Option<usize>
     ensures { FirstWrong trials.now result }
 {
     trials.iter().position(|trial| !holds(*trial))

@@ -16,10 +16,10 @@ use schema::{Attribute, Schema};
 use scope::{Place, find};
 use words::Span;
 
-const TEXT: &[u8] = b"aba";
+pub const TEXT: &[u8] = b"aba";
 
 // The columns `integer a`, `integer b`, `string a`, and an integer and a string without a name.
-fn column(which: char) -> Attribute
+pub fn column(which: char) -> Attribute
     ensures { column_of names result ≡ column_for which }
 {
     match which {
