@@ -64,6 +64,9 @@ within_prefix n p q (e, w, t, a) =
     let l = length-append q w in
     (e, q ++ w, t, mono _ _ (λ m s i. longer e (length w) (length (q ++ w)) m s (omega arith) i) b)
 
+begins_prefix : (p q : List Token) → Begins (p ++ q) → Begins p
+begins_prefix p q (n, w, t, a) = let b : Program n (p ++ (q ++ w)) t = rw append_assoc at a in (n, q ++ w, t, b)
+
 within_begins : (n : ℕ) (p : List Token) → Within n p → Begins p
 within_begins n p (e, w, t, a) = (raise e n, w, t, mono _ _ (λ m s i. refl) a)
 

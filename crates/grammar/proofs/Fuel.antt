@@ -9,11 +9,11 @@ use Rattle.words.specs.Tokens.{Token}
 use Rattle.grammar.specs.Parts.{Leaf, Level.product_level, Level.sum_level, Level.comparison_level, Part, Level, Turn, turn_at, level_after, place_of, combine, join_parts, Turn.stop, Turn.take_join, Turn.take_operator}
 use Rattle.grammar.specs.Promise.{any_token}
 use Rattle.grammar.specs.Readers.{Outcome, Outcome.found, Outcome.refused_at, Reader, and_then, take_turn, take_turns, read_level, rest, Shorter}
-use Rattle.grammar.specs.Readers.{read_leaf, read_attribute, read_tuple, factors_at, brackets_at}
+use Rattle.grammar.specs.Readers.{read_leaf, read_attribute, read_tuple, factors_at, brackets_at, expressions_at, statements_at}
 use Rattle.grammar.proofs.Table.{TableSymbol, Reads}
 use Rattle.grammar.proofs.Complete.{shrinks}
 use Rattle.grammar.proofs.Sound.{Holds, Holds.good, Holds.fault, holds_ok, Sound, atom_sound, attr_sound, tuple_sound, chain_sound}
-use Rattle.grammar.proofs.Sound.{factors_sound, brackets_sound}
+use Rattle.grammar.proofs.Sound.{factors_sound, brackets_sound, exprs_sound, stats_sound}
 
 abbrev Shortens : Reader → Type 0
 Shortens f = (s : List Token) → Holds (λ t r. length r ≤ length s) (f s)
@@ -83,6 +83,12 @@ factor_shorter n = by_sound {n = n} (factors_at any_token n) (factors_sound any_
 
 pub bracket_shorter : (n : ℕ) → Shorter (brackets_at any_token n)
 bracket_shorter n = by_sound {n = n} (brackets_at any_token n) (brackets_sound any_token n)
+
+pub expression_shorter : (n : ℕ) → Shorter (expressions_at any_token n)
+expression_shorter n = by_sound {n = n} (expressions_at any_token n) (exprs_sound any_token n)
+
+pub statement_shorter : (n : ℕ) → Shorter (statements_at any_token n)
+statement_shorter n = by_sound {n = n} (statements_at any_token n) (stats_sound any_token n)
 
 -- the items of the operators' levels
 pub product_shorter : (n : ℕ) → Shorter (read_level (factors_at any_token n) (brackets_at any_token n) product_level)

@@ -38,6 +38,10 @@ told_after {A = A} L F S f g s x h k = go (f s) (x.reads s) h
     go (taken a w) o h = k a w o.front o.parts o.text
     go (refused rule r) o h = h
 
+pub told_self : {A : Type 0} (y : Reading A) → Told (λ rule r. y ≡ refused rule r) y
+told_self (taken a r) = tt
+told_self (refused rule r) = refl
+
 -- Readers that refuse by one rule alone.
 abbrev pub Only : {A : Type 0} → Rule → Reader A → Type 0
 Only rule f = (s : List ℕ) → Told (λ other r. other ≡ rule) (f s)
