@@ -1,4 +1,5 @@
 pub mod Decoding
+pub mod Searching
 pub mod Keeping
 pub mod Growing
 pub mod Settling

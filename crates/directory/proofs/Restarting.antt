@@ -1,7 +1,7 @@
 -- Directories whose tables begin one after the other, and how the beginnings are set anew.
 use Rattle.std.proofs.Common.{◌≡◌, ℕ, suc, ◌+◌, ◌<◌, ◌≤◌, true, eqb, List, [], ◌∷◌, ◌++◌, length, get_or, take, drop, set, ℤ, sym, refl, ap, ◌∙◌, ap₂, add-zero, add_assoc, arith}
 use Rattle.std.proofs.lemmas.Bool.{and_from, eq-eqb}
-use Rattle.std.proofs.lemmas.List.{append-nil, take_all, drop_all, append_assoc, get_or_at, set_at, take_more, drop_more, length-take-le}
+use Rattle.std.proofs.lemmas.List.{append-nil, take_all, drop_all, append_assoc, get_or_at, set_at, take_more, drop_more, length-take-le, length-append, length-drop}
 use Rattle.directory.specs.Run.{extent_of, extent, decode, table_of}
 use Rattle.directory.specs.Starts.{starts, restarted}
 use Rattle.directory.specs.declared.entry.Entry.{Entry}
@@ -40,6 +40,9 @@ module _ (es now : List Entry) (i at : ℕ) (d : Entry) (l : i < length es) (inv
 
   pub restart_same : get_or now i d ≡ get_or es i d
   restart_same = ap (λ x. get_or x i d) split_here ∙ get_or_at (restarted 0 (take i es)) (get_or es i d) (drop (i + 1) es) d i front_long
+
+  pub restart_length : length now ≡ length es
+  restart_length = ap length inv ∙ omega (arith, length-append (restarted 0 (take i es)) (drop i es), front_long, length-drop i es)
 
   pub restart_fits : at + extent_of (get_or now i d) ≤ extent es
   restart_fits = omega (arith, at_is, ap extent_of restart_same, extent_take es i d l)

@@ -1,5 +1,5 @@
 -- A factor by the token that it begins with, and a bracket.
-use Rattle.std.proofs.Common.{◌≡◌, ℕ, zero, suc, true, false, eqb, List, ◌∷◌, pos, Some, None, Ok, Err, Option, Result, sym, refl, ap, ◌∙◌, subst, arith}
+use Rattle.std.proofs.Common.{◌≡◌, ℕ, zero, suc, ◌<◌, true, false, eqb, List, ◌∷◌, pos, Some, None, Ok, Err, Option, Result, sym, refl, ap, ◌∙◌, subst, arith}
 use Rattle.std.proofs.lemmas.Bool.{eqb-true}
 use Rattle.fault.specs.declared.rules.Fault.{Fault}
 use Rattle.words.specs.declared.tokens.Word.TheVariants.{Program, End, Table, If, Then, Else, While, Do, Read, Write, Join, Not, Project, Select, Exists}
@@ -15,6 +15,7 @@ use Rattle.grammar.specs.Parts.{Leaf.name_leaf, Leaf.type_leaf, Leaf.constant_le
 use Rattle.grammar.specs.Parts.{argument_of, apply, right_parenthesis, left_bracket, right_bracket, assign_token}
 use Rattle.grammar.specs.Promise.{any_token}
 use Rattle.grammar.specs.Readers.{Cause.cannot_follow, Outcome, Outcome.found as read, Outcome.refused_at, and_then, expect_token, read_leaf, read_bracket, read_argument, openings, factors_at, brackets_at, expressions_at}
+use Rattle.phrases.specs.Places.{pays_ahead}
 use Rattle.phrases.specs.States.{before, refused_by, opened, code_ahead}
 use Rattle.expressions.specs.declared.sorts.Unary.{Unary}
 use Rattle.expressions.specs.declared.sorts.Unary.TheVariants as unary
@@ -30,6 +31,7 @@ use Rattle.tree.specs.declared.nodes.Node.{Node}
 use Rattle.phrases.specs.declared.parsers.Parser.{Parser}
 use Rattle.phrases.specs.Held.{Held}
 use Rattle.phrases.specs.States.{Answers, tokens_ahead}
+use Rattle.phrases.proofs.Scans.{pays_some}
 use Rattle.phrases.proofs.ListSteps.{one_name}
 use Rattle.expressions.specs.Shapes.{Expressed}
 
@@ -203,6 +205,11 @@ factor_brace n k p s e = begun n k start.Brace e p s
 
 pub factor_nothing : (n : ℕ) (k : Option Terminal) (p : Place) (s : List Token) → start.Nothing ≡ start_in k → factors_at any_token n (before k p s) ≡ refused_at cannot_follow (before k p s)
 factor_nothing n k p s e = begun n k start.Nothing e p s
+
+-- a factor begins with a token
+pub start_pays : (k : Option Terminal) (x : Start) → x ≡ start_in k → (x ≡ start.Nothing → ⊥) → 0 < pays_ahead k
+start_pays None x e h = absurd (h e)
+start_pays (Some t) x e h = let z = pays_some t in omega (arith, z)
 
 -- a bracket by its first sign
 pub bracket_there : (n : ℕ) (k : Option Terminal) (p : Place) (s : List Token) → eqb 21 (code_ahead k) ≡ true → brackets_at any_token n (before k p s) ≡ opened n (enclosed_behind right_bracket) (before k p s)

@@ -11,7 +11,7 @@ use Rattle.words.specs.Tokens.{Place, Terminal, Token, Token.◌at◌, Terminal.
 use Rattle.words.specs.Tokens.{Terminal.sum, Terminal.product, Terminal.truth, Terminal.integer, Terminal.string, Terminal.name, Terminal.broken}
 use Rattle.grammar.specs.Parts.{Part, Turn as Move, Turn.stop, Turn.take_operator, Turn.take_join, Operator as Sort, Operator.logic_operator, Operator.comparison_operator, Operator.sum_operator, Operator.product_operator}
 use Rattle.grammar.specs.Parts.{Unary as Applied, Argument.extend_argument}
-use Rattle.grammar.specs.Parts.{Leaf.name_leaf, Leaf.type_leaf}
+use Rattle.grammar.specs.Parts.{Leaf, Leaf.name_leaf, Leaf.type_leaf, Leaf.constant_leaf}
 use Rattle.grammar.specs.Parts.{argument_of, apply, nothing, name_and_expression, type_name_and_expression, combine, join_parts, turn_at, level_after, code_of, left_bracket, right_bracket, assign_token}
 use Rattle.grammar.specs.Promise.{any_token}
 use Rattle.grammar.specs.Readers.{Outcome, Outcome.found as read, Outcome.refused_at, Reader, and_then, take_turn, expect_if, expect_token, read_leaf, read_level, rest, read_expression, read_bracket, factors_at, brackets_at, expressions_at, Shorter}
@@ -58,6 +58,12 @@ operand_halts end n rank.Comparison g c p q = refl
 operand_halts end n rank.Compared g c p q = refl
 operand_halts end n rank.Sum g c p q = refl
 operand_halts end n rank.Product g c p q = refl
+
+pub leaf_halts : (end : Place) (l : Leaf) (g : Part → List Token → Outcome) → Halts end (λ s. and_then (read_leaf l s) g)
+unfolding read_leaf refused_by
+leaf_halts end name_leaf g c p q = refl
+leaf_halts end type_leaf g c p q = refl
+leaf_halts end constant_leaf g c p q = refl
 
 -- `-` and `not`
 pub negation_halts : (end : Place) (u : Applied) (n : ℕ) (p : Place) → Halts end (negation_behind u n p)

@@ -4,22 +4,31 @@ use Rattle.std.proofs.lemmas.List.{length-map, map-append}
 use Rattle.domain.specs.declared.Domain.{Domain}
 use Rattle.fault.specs.Limits.{columns}
 use Rattle.fault.specs.declared.rules.Fault.{Fault}
-use Rattle.fault.specs.declared.rules.Rule.TheVariants.{TooMany, RepeatedName}
+use Rattle.fault.specs.declared.rules.Rule.TheVariants.{OperandMismatch, TooMany, RepeatedName}
 use Rattle.words.specs.Tokens.{Bytes, Place}
 use Rattle.schema.specs.Columns.{Column, column_of}
+use Rattle.schema.specs.Kinds.{ValueType.atom, ValueType.table}
 use Rattle.schema.specs.Building.{with_one, with_all}
 use Rattle.schema.specs.declared.attributes.Attribute.{Attribute}
 use Rattle.typing.specs.Environments.{fault}
 use Rattle.typing.specs.Tables.{has, meet, column_named}
-use Rattle.typing.specs.Checker.{Answer, ask, together, with_column}
+use Rattle.typing.specs.Checker.{Answer, ask, columns_of, together, with_column}
 
-ask_yes : {A : Type 0} (b : Bool) (f : Fault) (then : Answer A) → b ≡ true → then ≡ ask b f then
+pub ask_yes : {A : Type 0} (b : Bool) (f : Fault) (then : Answer A) → b ≡ true → then ≡ ask b f then
 unfolding ask
 ask_yes b f then h = rw h refl
 
-ask_no : {A : Type 0} (b : Bool) (f : Fault) (then : Answer A) → b ≡ false → Err f ≡ ask b f then
+pub ask_no : {A : Type 0} (b : Bool) (f : Fault) (then : Answer A) → b ≡ false → Err f ≡ ask b f then
 unfolding ask
 ask_no b f then h = rw h refl
+
+pub no_columns : (d : Domain) (p : Place) → Err (fault OperandMismatch p) ≡ columns_of (atom d) p
+unfolding columns_of
+no_columns d p = refl
+
+pub some_columns : (cs : List Column) (p : Place) → Ok cs ≡ columns_of (table cs) p
+unfolding columns_of
+some_columns cs p = refl
 
 module _ (text : List ℕ) (before : List Attribute) where
   cs : List Column

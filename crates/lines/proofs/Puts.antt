@@ -1,5 +1,6 @@
 -- Writing behind a line.
 use Rattle.std.proofs.Common.{◌≡◌, ℕ, ◌+◌, ◌≤◌, false, cond, ltb, List, [], ◌∷◌, ◌++◌, length, Ok, Err, sym, ap, ◌∙◌, subst, append_assoc, arith, length-append}
+use Rattle.std.proofs.lemmas.List.{append-nil}
 use Rattle.fault.specs.Limits.{line_bytes}
 use Rattle.texts.specs.Lines.{string_bytes}
 use Rattle.lines.specs.declared.writing.Line.{Line}
@@ -10,6 +11,10 @@ pub writes_then : (at next : ℕ) (a b x y z : List ℕ) → next ≡ at + lengt
 writes_then at next a b x y z n f g = λ front whole l e.
     let long = length-append front a in
     subst (λ w. z ≡ written w whole) (append_assoc front a b) (g (front ++ a) whole (omega (arith, n, long, l)) (f front whole l e))
+
+-- nothing
+pub none_writes : (at : ℕ) (x : List ℕ) → Writes at [] x x
+none_writes at x = λ front whole l e. e ∙ ap (λ z. written z whole) (sym (append-nil front))
 
 pub string_length : (s : List ℕ) → length (string_bytes s) ≡ length s + 2
 string_length s = let long = length-append s (34 ∷ []) in omega (arith, long)

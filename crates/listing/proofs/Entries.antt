@@ -77,6 +77,10 @@ gathered_more : (p : List Value) (v : Value) (y : Reading (List Value)) → gath
 gathered_more p v (taken vs r) = ap (λ z. taken z r) (sym (append_assoc p (v ∷ []) vs))
 gathered_more p v (refused rule r) = refl
 
+pub gathered_none : (y : Reading (List Value)) → gathered [] y ≡ y
+gathered_none (taken vs r) = refl
+gathered_none (refused rule r) = refl
+
 values_more : (t : List ℕ) (cells : List Cell) (i : ℕ) (c : Cell) → i < length cells → values_in (i + 1) t (set cells i c) ≡ values_in i t cells ++ (value_in t c ∷ [])
 values_more t cells i c h = ap (map (value_in t)) (take_more_set cells i c h) ∙ map-append (value_in t) (take i cells) (c ∷ [])
 

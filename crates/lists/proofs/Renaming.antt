@@ -1,5 +1,5 @@
 -- Columns that are renamed one by one.
-use Rattle.std.proofs.Common.{◌≡◌, ℕ, ◌+◌, ◌<◌, ◌≤◌, Bool, true, false, not, ◌||◌, eqb, ltb, List, [], ◌∷◌, ◌++◌, map, length, Some, Ok, Err, sym, refl, ap, ◌∙◌, arith}
+use Rattle.std.proofs.Common.{◌≡◌, ℕ, ◌+◌, ◌<◌, ◌≤◌, Bool, true, false, not, ◌||◌, eqb, ltb, List, [], ◌∷◌, ◌++◌, map, length, Some, None, Ok, Err, Option, sym, refl, ap, ◌∙◌, arith}
 use Rattle.std.specs.List.{AllZip}
 use Rattle.std.specs.Str.{bytes_eq}
 use Rattle.std.proofs.lemmas.Slice.Zip.{AllZip-long}
@@ -38,6 +38,10 @@ module _ (text : Bytes) (s : Said) (d : Domain) (fresh : List Column) where
       answer n (ap (λ x. part_of x text) (same_some (ap (λ x. span_said x.what) says-name) g) ∙ spelled)
       ∙ ap (λ q. with_column fresh n d q q) (ap (λ x. x.place) says-name)
       ∙ roomy fresh n d p few
+
+  -- No name stands there, so there is nothing to say.
+  pub no_name_here : (r : Answer (List Column)) → None ≡ span_said s.what → RenamesOne text s d fresh r
+  no_name_here r h n p (span, says-name, spelled) few = let clash : ◌≡◌ {A = Option Span} (Some span) None = sym (h ∙ ap (λ x. span_said x.what) says-name) in let z : ◌≡◌ {A = ℕ} 0 1 = cc in absurd (omega arith)
 
 any_push : {E : Type 0} (is : E → Bool) (l : List E) (x : E) → any is (l ++ (x ∷ [])) ≡ is x || any is l
 any_push is [] x = refl

@@ -6,7 +6,7 @@ use Rattle.words.specs.Tokens.{Bytes, Place}
 use Rattle.fault.specs.Limits.{nodes as nodes_limit}
 use Rattle.words.specs.Lexing.{end_of}
 use Rattle.words.specs.Views.{spoken, standing}
-use Rattle.phrases.specs.Places.{following, Lies, TellsAhead}
+use Rattle.phrases.specs.Places.{worth_of, following, Lies, TellsAhead}
 use Rattle.grammar.specs.Parts.{Part}
 use Rattle.grammar.specs.Readers.{Outcome, Outcome.found}
 use Rattle.tree.specs.Holds.{Says, node_at, said}
@@ -15,7 +15,7 @@ use Rattle.tree.specs.declared.nodes.Node.{Node}
 use Rattle.tree.specs.declared.nodes.What.{What}
 use Rattle.tree.proofs.Grown.{below_then, beyond_then, below_set, beyond_set, here}
 use Rattle.phrases.specs.declared.parsers.Parser.{Parser}
-use Rattle.phrases.specs.States.{Grounded, tokens_ahead, worth, before, behind, ahead_at, Counted, new_node, NumbersOn, Holding, Done, Answers, refused_by}
+use Rattle.phrases.specs.States.{Grounded, tokens_ahead, worth, before, behind, ahead_at, Counted, new_node, Numbers, NumbersOn, Holding, Done, Answers, refused_by}
 
 pub grounded_counted : (text : Bytes) (ys : List Node) (b c : Parser) → Counted b c → Grounded text ys b → Grounded text c.nodes.now c
 grounded_counted text ys b c e g =
@@ -60,6 +60,13 @@ done_put P text o from a b c xs ys w p u i state put root value g below beyond l
       holds = subst (λ n. P text zs from n i u) (sym more) (subst (λ n. P text zs from (suc b.count) n u) (sym root) (h stays (ap said node) (ap (λ n. n.next) node)));
     }
 
+-- the node that is put was paid for
+pub numbers_put : (a b c : Parser) → Counted b c → suc (b.count + worth b) ≤ a.count + worth a → worth b < worth a → a.count ≤ b.count → Numbers a c
+numbers_put a b c e h k l =
+    let n = e.count in
+    let m : worth c ≡ worth b = ap (λ s. worth_of (spoken c.ahead.token) (standing s)) e.scanner ∙ ap (λ l. worth_of (spoken l.token) (standing b.scanner)) e.ahead in
+    record { thrifty = omega (arith, n, m, h); onward = omega (arith, m, k); grown = omega (arith, n, l) }
+
 -- what a function has answered
 pub answered : (P : Holding) (text : Bytes) (o : Outcome) (from : ℕ) (a b : Parser) (xs ys : List Node) (i : ℕ) → Answers P text o from a b xs ys (Ok i) → Done P text o from a b xs ys i
 unfolding Answers
@@ -91,6 +98,19 @@ answers_later P text o q from a b c xs ys zs (Ok i) e below beyond n d =
       holds = d.holds;
     }
 answers_later P text o q from a b c xs ys zs (Err f) e below beyond n d = ap (refused_by (end_of text)) e ∙ d
+
+-- numbers of a whole by those of its parts
+pub numbers_on : (b c : Parser) (r : Result ℕ Fault) → IfOk r (λ _. Numbers b c) → IfOk r (λ _. NumbersOn b c)
+numbers_on b c (Ok i) n = record { thrifty = n.thrifty; onward = omega (arith, n.onward); grown = omega (arith, n.grown) }
+numbers_on b c (Err f) n = tt
+
+pub numbers_later : (a b c : Parser) (r : Result ℕ Fault) → b.count + worth b ≤ a.count + worth a → worth b < worth a → a.count < b.count → IfOk r (λ _. NumbersOn b c) → IfOk r (λ _. Numbers a c)
+numbers_later a b c (Ok i) h k l n = record { thrifty = omega (arith, h, n.thrifty); onward = omega (arith, k, n.onward); grown = omega (arith, l, n.grown) }
+numbers_later a b c (Err f) h k l n = tt
+
+pub numbers_on_later : (a b c : Parser) (r : Result ℕ Fault) → b.count + worth b ≤ a.count + worth a → worth b ≤ worth a → a.count ≤ b.count → IfOk r (λ _. NumbersOn b c) → IfOk r (λ _. NumbersOn a c)
+numbers_on_later a b c (Ok i) h k l n = record { thrifty = omega (arith, h, n.thrifty); onward = omega (arith, k, n.onward); grown = omega (arith, l, n.grown) }
+numbers_on_later a b c (Err f) h k l n = tt
 
 -- an answer where nothing was read
 pub answers_here : (P : Holding) (text : Bytes) (o : Outcome) (from : ℕ) (a : Parser) (xs : List Node) (i : ℕ) → Grounded text xs a → Answers P text o from a a xs xs (Ok i) → Answers P text o from a a xs a.nodes.now (Ok i)

@@ -47,6 +47,10 @@ pub faulty_tokens : (s : Spot) (r : Rule) (p : Place) → faulty r p ≡ next s 
 faulty_tokens s r p e = ap broken_in (following_next s ∙ ap (followed following) (sym e))
 
 -- a fault handed on says nothing more
+pub cases_err : {A B : Type 0} (P : A → Type 0) (r : Result A B) (y : B) → r ≡ Err y → IfOk r P
+cases_err P (Ok a) y e = absurd (let z : ◌≡◌ {A = ℕ} 0 1 = cc in omega arith)
+cases_err P (Err b) y e = tt
+
 pub stepped_err : (text : Bytes) (arena : List Node) (a b : Parser) (r : Result (Unit {0}) Fault) (y x : Fault) → r ≡ Err y → y ≡ x → broken_in (behind a) ≡ some x → Stepped text arena a b r
 unfolding Stepped
 stepped_err text arena a b (Ok u) y x e i h = absurd (let z : ◌≡◌ {A = ℕ} 0 1 = cc in omega arith)
@@ -117,6 +121,10 @@ refused_first end (read t r) g f h e = refused_ahead end (g t) r f (h t) e
 -- a reading whose first part is found, and the rest refused
 pub refused_then : (end : Place) (x : Outcome) (t : Part) (r : List Token) (g : Part → List Token → Outcome) (f : Fault) → x ≡ read t r → refused_by end (g t r) ≡ some f → refused_by end (and_then x g) ≡ some f
 refused_then end x t r g f e h = ap (λ i. refused_by end (and_then i g)) e ∙ h
+
+-- a reading whose parts are found
+pub found_then : (x y : Outcome) (t : Part) (r : List Token) (g : Part → List Token → Outcome) → x ≡ read t r → g t r ≡ y → and_then x g ≡ y
+found_then x y t r g e h = ap (λ i. and_then i g) e ∙ h
 
 -- what a step has done
 pub stepped_ok : (text : Bytes) (arena : List Node) (a b : Parser) (u : Unit {0}) → Stepped text arena a b (Ok u) → (Grounded text arena b) × (tokens_ahead b ≡ behind a)
@@ -208,6 +216,11 @@ expected_ok text arena w a b u h = h
 pub expected_broken : (text : Bytes) (arena : List Node) (w : Terminal) (a b : Parser) (f : Fault) → Expected text arena w a b (Err f) → refused_by (end_of text) (expect_token (w at origin) (tokens_ahead a)) ≡ some f
 unfolding Expected
 expected_broken text arena w a b f h = h
+
+pub expected_err : (text : Bytes) (arena : List Node) (w : Terminal) (a b : Parser) (r : Result (Unit {0}) Fault) (y x : Fault) → r ≡ Err y → y ≡ x → refused_by (end_of text) (expect_token (w at origin) (tokens_ahead a)) ≡ some x → Expected text arena w a b r
+unfolding Expected
+expected_err text arena w a b (Ok u) y x e i h = absurd (let z : ◌≡◌ {A = ℕ} 0 1 = cc in omega arith)
+expected_err text arena w a b (Err f) y x e i h = let g : x ≡ f = cc in h ∙ ap some g
 
 -- a reading that has found its part comes to what is no token, if that stands next
 pub found_broken : (end : Place) (o : Outcome) (t : Part) (s : List Token) (f : Fault) → o ≡ read t s → broken_in s ≡ some f → refused_by end o ≡ some f

@@ -1,5 +1,6 @@
 -- The tests of sameness decide sameness.
 use Rattle.std.proofs.Common.{◌≡◌, ℕ, Bool, true, false, ◌↔◌, List, [], ◌∷◌, Some, None, Option, sym, refl, ap, ◌∙◌, subst, arith}
+use Rattle.std.specs.Str.{bytes_eq}
 use Rattle.std.proofs.lemmas.Bool.{and_parts}
 use Rattle.std.proofs.lemmas.Bool.Decides.{nat_tests}
 use Rattle.std.proofs.lemmas.Slice.Eq.{bytes_eq-Decides}
@@ -31,6 +32,14 @@ domain_is a b h =
 
 pub domain_same : (a : Domain) → same_domain a a ≡ true
 domain_same a = grind (arith, nat_tests)
+
+-- The test of domains decides whether they are one.
+pub domain_decided : (a b : Domain) {r : Bool} → r ≡ same_domain a b → (r ≡ true ↔ a ≡ b)
+domain_decided a b value = (λ h. domain_is a b (sym value ∙ h), λ h. value ∙ ap (λ x. same_domain a x) (sym h) ∙ domain_same a)
+
+-- The test of names decides whether they are one.
+pub name_decided : (a b : Bytes) {r : Bool} → r ≡ bytes_eq a b → (r ≡ true ↔ a ≡ b)
+name_decided a b value = (λ h. (bytes_eq-Decides a b).0 (sym value ∙ h), λ h. value ∙ (bytes_eq-Decides a b).1 h)
 
 agree_is : (a b : Option Bytes) → agree a b ≡ true → Agree a b
 agree_is None b h = left_nameless

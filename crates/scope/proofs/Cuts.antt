@@ -61,6 +61,17 @@ module _ {E : Type 0} (is : E → Bool) where
       ap (λ m. Some (record { distance = m; position = k; number = from + k })) (let z : n ≡ n + 0 = omega arith in z)
       ∙ sym (ap (λ l. from_inside n (place_of (find is (cut (reverse l) es)))) b ∙ ap (from_inside n) (find_step outer start from es w ∙ ap (λ o. chosen o from (place_of (find is (cut (reverse outer) (take from es))))) (sym e)))
 
+  from_further : (n : ℕ) (o : Option Place) → from_inside n (from_inside 1 o) ≡ from_inside (n + 1) o
+  from_further n None = refl
+  from_further n (Some p) = ap (λ m. Some (record { distance = m; position = p.position; number = p.number })) (let z : n + (1 + p.distance) ≡ n + 1 + p.distance = omega arith in z)
+
+  -- The innermost list has none.
+  pub find_further : (begun outer : List ℕ) (start from n : ℕ) (es : List E) → begun ≡ outer ++ (start ∷ []) → from ≡ min start (length es) → None ≡ position_of (newest_of is (take (length es - from) (drop from es))) →
+      from_inside (n + 1) (place_of (find is (cut (reverse outer) (take from es)))) ≡ from_inside n (place_of (find is (cut (reverse begun) es)))
+  find_further begun outer start from n es b w e =
+      sym (from_further n (place_of (find is (cut (reverse outer) (take from es)))))
+      ∙ sym (ap (λ l. from_inside n (place_of (find is (cut (reverse l) es)))) b ∙ ap (from_inside n) (find_step outer start from es w ∙ ap (λ o. chosen o from (place_of (find is (cut (reverse outer) (take from es))))) (sym e)))
+
   find_one : (begun : List ℕ) (es : List E) (n : ℕ) → begun ≡ [] → from_inside n (place_of (find is (cut (reverse begun) es))) ≡ from_inside n (chosen (position_of (newest_of is es)) 0 None)
   find_one begun es n h = ap (λ l. from_inside n (place_of (find is (cut (reverse l) es)))) h ∙ ap (from_inside n) (chosen_is (newest_of is es) 0 None)
 
@@ -76,3 +87,8 @@ module _ {E : Type 0} (is : E → Bool) where
   pub find_nowhere : (begun : List ℕ) (es : List E) (n : ℕ) → begun ≡ [] → None ≡ position_of (newest_of is es) →
       None ≡ from_inside n (place_of (find is (cut (reverse begun) es)))
   find_nowhere begun es n h e = sym (find_one begun es n h ∙ ap (λ o. from_inside n (chosen o 0 None)) (sym e))
+
+-- Seen from where one stands.
+pub from_here : (o : Option Place) → from_inside 0 o ≡ o
+from_here None = refl
+from_here (Some p) = ap (λ m. Some (record { distance = m; position = p.position; number = p.number })) (let z : 0 + p.distance ≡ p.distance = omega arith in z)

@@ -1,6 +1,6 @@
 -- What a search answers is what the relation says, and only that.
-use Rattle.std.proofs.Common.{◌≡◌, ℕ, Bool, true, false, ◌||◌, List, [], ◌∷◌, ◌++◌, map, length, get_or, is_some, Some, None, Option, sym, refl, ap, ◌∙◌, subst, arith}
-use Rattle.std.proofs.lemmas.List.{get_or_at}
+use Rattle.std.proofs.Common.{◌≡◌, ℕ, ◌+◌, Bool, true, false, ◌||◌, List, [], ◌∷◌, ◌++◌, map, length, get_or, is_some, Some, None, Option, sym, refl, ap, ◌∙◌, subst, ap₂, arith}
+use Rattle.std.proofs.lemmas.List.{length-map, get_or_at}
 use Rattle.scope.specs.Chains.{Newest, position_of, Found, size, any, newest_of, newest_or, find, find_or, Search}
 use Rattle.scope.specs.Chains.{Lacks, Lacks.lacks_none, Lacks.lacks_more, Sees, Sees.here, Sees.outward, Absent, Absent.absent_none, Absent.absent_more}
 
@@ -78,6 +78,28 @@ module _ {E : Type 0} (is : E → Bool) where
       by (Some n) = refl
       by None = refl
 
+  -- A position was found, so the list has one.
+  pub position_any : (es : List E) (k : ℕ) → Some k ≡ position_of (newest_of is es) → true ≡ any is es
+  position_any es k h = sym (any_position es h)
+
+  -- No position was found, so the list has none.
+  pub no_position_any : (es : List E) → None ≡ position_of (newest_of is es) → false ≡ any is es
+  no_position_any es h = sym (any_position es h)
+
+  -- An empty outermost list changes nothing.
+  pub find_empty_end : (lists : List (List E)) → find is (lists ++ ([] ∷ [])) ≡ find is lists
+  find_empty_end [] = refl
+  find_empty_end (inner ∷ outer) = ap (λ r. find_or is (newest_of is inner) (size (outer ++ ([] ∷ []))) r) (find_empty_end outer) ∙ ap (λ n. find_or is (newest_of is inner) n (find is outer)) (size_end outer)
+    where
+      size_end : (lists : List (List E)) → size (lists ++ ([] ∷ [])) ≡ size lists
+      size_end [] = refl
+      size_end (inner ∷ outer) = ap (λ n. n + length inner) (size_end outer)
+
+-- What is found, with its entry seen as another.
+abbrev pub found_as : {A B : Type 0} → (A → B) → Option (Found A) → Option (Found B)
+found_as f None = None
+found_as f (Some x) = Some (record { entry = f x.entry; distance = x.distance; position = x.position; number = x.number })
+
 module _ {A B : Type 0} (f : A → B) (is : B → Bool) where
   abbrev pub newest_as : Option (Newest A) → Option (Newest B)
   newest_as None = None
@@ -91,6 +113,24 @@ module _ {A B : Type 0} (f : A → B) (is : B → Bool) where
       by (Some n) b = refl
       by None true = refl
       by None false = refl
+
+  size_map : (lists : List (List A)) → size (map (map f) lists) ≡ size lists
+  size_map [] = refl
+  size_map (inner ∷ outer) = ap₂ (λ m n. m + n) (size_map outer) (length-map inner f)
+
+  -- A search among entries seen as others finds the same places.
+  pub find_map : (lists : List (List A)) → find is (map (map f) lists) ≡ found_as f (find (λ a. is (f a)) lists)
+  find_map [] = refl
+  find_map (inner ∷ outer) =
+      ap (λ r. find_or is (newest_of is (map f inner)) (size (map (map f) outer)) r) (find_map outer)
+      ∙ ap (λ o. find_or is o (size (map (map f) outer)) (found_as f (find (λ a. is (f a)) outer))) (newest_map inner)
+      ∙ ap (λ n. find_or is (newest_as (newest_of (λ a. is (f a)) inner)) n (found_as f (find (λ a. is (f a)) outer))) (size_map outer)
+      ∙ by (newest_of (λ a. is (f a)) inner) (find (λ a. is (f a)) outer)
+    where
+      by : (o : Option (Newest A)) (r : Option (Found A)) → find_or is (newest_as o) (size outer) (found_as f r) ≡ found_as f (find_or (λ a. is (f a)) o (size outer) r)
+      by (Some n) r = refl
+      by None (Some x) = refl
+      by None None = refl
 
   pub any_map : (es : List A) → any is (map f es) ≡ any (λ a. is (f a)) es
   any_map [] = refl

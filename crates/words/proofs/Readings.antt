@@ -6,7 +6,7 @@ use Rattle.std.proofs.lemmas.Bool.Decides.{nat_tests}
 use Rattle.fault.specs.declared.rules.Rule.{Rule}
 use Rattle.fault.specs.declared.rules.Rule.TheVariants.{NoToken, TokenTooLarge}
 use Rattle.words.specs.Letters.{letter, digit, feed, blank}
-use Rattle.words.specs.Lexing.{Spot, Scan, Scan.found, Scan.ended, Scan.faulty, place, further, taken, skipped, token_at, next, followed, tokens_in, tokens_from}
+use Rattle.words.specs.Lexing.{Spot, Scan, Scan.found, Scan.ended, Scan.faulty, place, further, taken, skipped, token_at, next, followed, tokens_in, tokens_from, end_from}
 use Rattle.words.specs.Reading.{Spells, Fits, NoneBegins, Begins, along, newline, EveryTextIsScanned, OneListOfTokens}
 use Rattle.words.specs.Reading.{Scanned, Scanned.finished, Scanned.line_passed, Scanned.blank_passed, Scanned.token_read, Scanned.token_too_large, Scanned.no_token}
 use Rattle.words.specs.Spelling.{pair_of, single_of}
@@ -257,3 +257,32 @@ pub tokens_broken : (s : Spot) (r : Rule) (p : Place) → next s ≡ faulty r p 
 tokens_broken s r p h = ap (followed (tokens_in (length s.rest))) h
 
 -- the end of the text stands behind its last byte
+
+skipped_end : (s : Bytes) (l b : ℕ) → (skipped s l b).rest ≡ [] → (skipped s l b).here ≡ end_from s l b
+skipped_end [] l b h = refl
+skipped_end (x ∷ s) l b h = go (feed x) (blank x) (skipped_end s (l + 1) (b + 1)) (skipped_end s l (b + 1)) h
+  where
+    go : (y z : Bool) → ((skipped s (l + 1) (b + 1)).rest ≡ [] → (skipped s (l + 1) (b + 1)).here ≡ end_from s (l + 1) (b + 1)) →
+        ((skipped s l (b + 1)).rest ≡ [] → (skipped s l (b + 1)).here ≡ end_from s l (b + 1)) →
+        (passed y z (skipped s (l + 1) (b + 1)) (skipped s l (b + 1)) (spot_at (x ∷ s) (place l b))).rest ≡ [] →
+        (passed y z (skipped s (l + 1) (b + 1)) (skipped s l (b + 1)) (spot_at (x ∷ s) (place l b))).here ≡ elim y as (λ _. Place) [ true ↦ end_from s (l + 1) (b + 1) | false ↦ end_from s l (b + 1) ]
+    go true z p q h = p h
+    go false true p q h = q h
+    go false false p q h = let w : ◌≡◌ {A = ℕ} 0 1 = cc in absurd (omega arith)
+
+abbrev Ends : Spot → Scan → Type 0
+Ends s (found t k) = Unit {0}
+Ends s (ended p k) = (s.rest ≡ []) × (p ≡ s.here)
+Ends s (faulty r p) = Unit {0}
+
+found_ends : (s : Spot) (x : Scan) → Found s x → Ends s x
+found_ends s x (at_end e) = (e, refl)
+found_ends s x (token_there t n within begins fits) = tt
+found_ends s x (too_large t n begins fits) = tt
+found_ends s x (none_there b r e none) = tt
+
+pub ended_place : (s k : Spot) (p : Place) → next s ≡ ended p k → p ≡ end_from s.rest s.here.line s.here.byte
+ended_place s k p h =
+    let on : Spot = skipped s.rest s.here.line s.here.byte in
+    let e : (on.rest ≡ []) × (p ≡ on.here) = subst (Ends on) h (found_ends on (token_at on) (token_found on.rest on.here)) in
+    e.1 ∙ skipped_end s.rest s.here.line s.here.byte e.0
