@@ -1,6 +1,6 @@
 -- What reading a text adds to the strings: each one that has no number yet, once, by first appearance,
 -- as long as there is room for one string more and for its bytes.
-use Rattle.std.specs.Prelude.{ℕ, ◌-◌, cond, ◌&&◌, List, [], ◌∷◌, ◌++◌, length, ℤ, pos, Some, None, Option, nat_le}
+use Rattle.std.specs.Prelude.{ℕ, ◌-◌, cond, ◌&&◌, List, [], ◌∷◌, ◌++◌, length, ℤ, pos, Some, None, Option, Ok, Err, Result, ok_or, nat_le}
 use Rattle.fault.specs.Limits.{read_strings, read_bytes}
 use Rattle.texts.specs.Language.{Value, Value.integer, Value.string, Value.boolean}
 use Rattle.pool.specs.declared.fresh.Fresh.{Fresh}
@@ -8,32 +8,32 @@ use Rattle.pool.specs.declared.fresh.Room.{Room}
 use Rattle.pool.specs.declared.learning.Source.{Source}
 use Rattle.pool.specs.Strings.{position, parts, numbered}
 
--- the new strings so far, and the room that is left; none once there was too little
+-- the new strings so far, and the room that is left: an Err once it was too little
 pub record Learned : Type 0 where
   pub fresh : List (List ℕ)
-  pub room : Option Room
+  pub room : Result Room Room
 
 abbrev pub learned_of : List ℕ → Fresh → Learned
 learned_of text f = record { fresh = parts text f.spans.items; room = f.room }
 
 -- nothing yet, after so many strings with so many bytes
 abbrev pub nothing_learned : ℕ → ℕ → Learned
-nothing_learned strings bytes = record { fresh = []; room = Some (record { strings = read_strings - strings; bytes = read_bytes - bytes }) }
+nothing_learned strings bytes = record { fresh = []; room = Ok (record { strings = read_strings - strings; bytes = read_bytes - bytes }) }
 
 -- the room that a string leaves, if it fits
 abbrev pub room_after : Room → List ℕ → Option Room
 room_after r s = cond (nat_le 1 r.strings && nat_le (length s) r.bytes) (Some (record { strings = r.strings - 1; bytes = r.bytes - length s })) None
 
 -- a new string, which is kept if it leaves room
-abbrev pub with_string : List (List ℕ) → List ℕ → Option Room → Learned
-with_string fresh s None = record { fresh = fresh; room = None }
-with_string fresh s (Some r) = record { fresh = fresh ++ (s ∷ []); room = Some r }
+abbrev pub with_string : List (List ℕ) → List ℕ → Result Room Room → Learned
+with_string fresh s (Err r) = record { fresh = fresh; room = Err r }
+with_string fresh s (Ok r) = record { fresh = fresh ++ (s ∷ []); room = Ok r }
 
--- a string that has a number already, or a new one, while there is room
-abbrev pub learn_on : Option ℕ → List (List ℕ) → Option Room → List ℕ → Learned
-learn_on number fresh None s = record { fresh = fresh; room = None }
-learn_on (Some n) fresh (Some r) s = record { fresh = fresh; room = Some r }
-learn_on None fresh (Some r) s = with_string fresh s (room_after r s)
+-- a string that has a number already, or a new one, while there is room; from the first one on that does not fit, all stays
+abbrev pub learn_on : Option ℕ → List (List ℕ) → Result Room Room → List ℕ → Learned
+learn_on number fresh (Err r) s = record { fresh = fresh; room = Err r }
+learn_on (Some n) fresh (Ok r) s = record { fresh = fresh; room = Ok r }
+learn_on None fresh (Ok r) s = with_string fresh s (ok_or (room_after r s) r)
 
 abbrev pub learn_string : List (List ℕ) → Learned → List ℕ → Learned
 learn_string known l s = learn_on (position (known ++ l.fresh) s) l.fresh l.room s

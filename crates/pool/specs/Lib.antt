@@ -1,2 +1,3 @@
 pub mod Strings
+pub mod Rooms
 pub mod Learning

@@ -1,8 +1,8 @@
 // The new strings of a text while it is read: parts of that text, and the room that is left for more.
 ghost use Rattle.std.specs.Prelude.{◌≡◌, ◌+◌, ◌≤◌, length};
-ghost use Rattle.std.specs.Option.{ForSome};
 ghost use Rattle.arrayvec.specs.ArrayVec.{array_vec_len};
 ghost use Rattle.fault.specs.Limits.{read_strings};
+ghost use Rattle.pool.specs.Rooms.{left_of};
 
 use arrayvec::ArrayVec;
 use fault::limits::READ_STRINGS;
@@ -15,10 +15,10 @@ pub struct Room {
     pub(crate) bytes: usize,
 }
 
-// There is no room any more once a string did not fit.
+// The room is an Err once a string did not fit: what was left then.
 #[derive(Drop)]
 pub struct Fresh {
     pub(crate) spans: ArrayVec<Span, READ_STRINGS>,
-    pub(crate) room: Option<Room>,
-    ghost few: { ForSome room (λ r. array_vec_len spans + r.strings ≤ read_strings) },
+    pub(crate) room: Result<Room, Room>,
+    ghost few: { array_vec_len spans + (left_of room).strings ≤ read_strings },
 }

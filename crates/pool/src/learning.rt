@@ -1,5 +1,5 @@
 // Numbers for strings, old and new.
-ghost use Rattle.std.specs.Prelude.{◌≡◌, ℕ, ◌+◌, ◌<◌, List, ◌++◌, map, IfSome, is_none};
+ghost use Rattle.std.specs.Prelude.{◌≡◌, ℕ, ◌+◌, ◌<◌, List, ◌++◌, map, IfSome, is_err};
 ghost use Rattle.fault.specs.Limits as limits;
 ghost use Rattle.listing.specs.Seen.{part, value_in};
 ghost use Rattle.pool.specs.Strings.{position, parts, numbered};
@@ -40,7 +40,7 @@ impl Fresh {
     {
         Fresh {
             spans: ArrayVec::new(),
-            room: Some(Room {
+            room: Ok(Room {
                 strings: READ_STRINGS.saturating_sub(strings),
                 bytes: READ_BYTES.saturating_sub(bytes),
             }),
@@ -49,9 +49,9 @@ impl Fresh {
 
     // Whether there ever was too little room.
     pub fn is_over(&self) -> bool
-        ensures { result ≡ is_none self.now.room }
+        ensures { result ≡ is_err self.now.room }
     {
-        self.room.is_none()
+        self.room.is_err()
     }
 
     // The number of a string: among the known ones, then among the new ones of the text.
@@ -68,18 +68,19 @@ impl Fresh {
     }
 
     // A string of the text: nothing to learn if it has a number, else one new string while there is room.
+    // What is left stays as it is from the first one on that does not fit.
     fn learn(&mut self, source: Source<'_>, span: Span)
         ensures { learned_of source.entry.text.now self.new ≡ learn_string (numbered source.entry.known) (learned_of source.entry.text.now self.old) (part source.entry.text.now span) }
     {
-        let Some(room) = self.room else {
+        let Ok(room) = self.room else {
             return;
         };
         let wanted = part(span, source.text);
         if self.number(source, wanted).is_some() {
             return;
         }
-        self.room = room.after(wanted);
-        if self.room.is_some() {
+        self.room = room.after(wanted).ok_or(room);
+        if self.room.is_ok() {
             self.spans.push(span);
         }
     }

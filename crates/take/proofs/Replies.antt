@@ -1,6 +1,6 @@
 -- The reply to a text and the store afterwards, refusal by refusal in their order.
 use Rattle.std.proofs.Common.{◌≡◌, ℕ, ◌<◌, ◌≤◌, Bool, true, false, cond, ltb, List, [], length, Ok, Err, Result, sym, refl, ap, ◌∙◌, subst, ap₂, arith}
-use Rattle.std.specs.Option.{is_none}
+use Rattle.std.specs.Result.{is_err}
 use Rattle.fault.specs.declared.rules.Fault.{Fault}
 use Rattle.fault.specs.declared.rules.Rule.TheVariants.{TooManyStrings}
 use Rattle.fault.specs.Limits.{text_bytes}
@@ -73,18 +73,18 @@ module _ (cs : List Column) (text : List ℕ) (known : List (List ℕ)) (l0 : Le
         reply_is : take_reply cs text known l0 n w s ≡ with_learned (rows_reply l (table_rows known l t.rows) w s) l
         reply_is = (by_ready true ok).0 ∙ (ap (take_read text known l0 w s) t.reads ∙ ap (λ k. with_learned (rows_reply k (table_rows known k t.rows) w s) k) (sym t.learned))
 
-        after_is : take_after cs text known l0 n w s ≡ cond (is_none l.room) s (fits_after (table_rows known l t.rows) w n s)
-        after_is = (by_ready true ok).1 ∙ (ap (read_after known l0 n w s) t.reads ∙ ap (λ k. cond (is_none k.room) s (fits_after (table_rows known k t.rows) w n s)) (sym t.learned))
+        after_is : take_after cs text known l0 n w s ≡ cond (is_err l.room) s (fits_after (table_rows known l t.rows) w n s)
+        after_is = (by_ready true ok).1 ∙ (ap (read_after known l0 n w s) t.reads ∙ ap (λ k. cond (is_err k.room) s (fits_after (table_rows known k t.rows) w n s)) (sym t.learned))
 
         -- too many strings
-        pub too_many : (is_none l.room) ≡ true → (Err (of_supply TooManyStrings) ≡ take_reply cs text known l0 n w s) × (s ≡ take_after cs text known l0 n w s)
+        pub too_many : (is_err l.room) ≡ true → (Err (of_supply TooManyStrings) ≡ take_reply cs text known l0 n w s) × (s ≡ take_after cs text known l0 n w s)
         too_many h = (
           sym (reply_is ∙ ap (λ b. with_learned (cond b (Err (of_supply TooManyStrings)) (fits_reply (table_rows known l t.rows) w s)) l) h),
           sym (after_is ∙ ap (λ b. cond b s (fits_after (table_rows known l t.rows) w n s)) h),
         )
 
         -- as the rows are taken
-        pub as_rows : (is_none l.room) ≡ false → (r : Result (Unit {0}) Fault) (m : Store) → r ≡ fits_reply (table_rows known l t.rows) w s → m ≡ fits_after (table_rows known l t.rows) w n s →
+        pub as_rows : (is_err l.room) ≡ false → (r : Result (Unit {0}) Fault) (m : Store) → r ≡ fits_reply (table_rows known l t.rows) w s → m ≡ fits_after (table_rows known l t.rows) w n s →
             (with_learned r l ≡ take_reply cs text known l0 n w s) × (m ≡ take_after cs text known l0 n w s)
         as_rows h r m a b = (
           ap (λ x. with_learned x l) a ∙ sym (reply_is ∙ ap (λ c. with_learned (cond c (Err (of_supply TooManyStrings)) (fits_reply (table_rows known l t.rows) w s)) l) h),

@@ -1,5 +1,5 @@
 -- What a supplied text comes to: its rows as cells, no row twice, in the place of the variable's old rows.
-use Rattle.std.specs.Prelude.{ℕ, ◌-◌, ◌*◌, Bool, true, false, cond, ◌&&◌, List, [], ◌∷◌, ◌++◌, map, length, Ok, Err, Result, ◌==◌, nat_le, nat_lt, slice_set, is_none}
+use Rattle.std.specs.Prelude.{ℕ, ◌-◌, ◌*◌, Bool, true, false, cond, ◌&&◌, List, [], ◌∷◌, ◌++◌, map, length, Ok, Err, Result, ◌==◌, nat_le, nat_lt, slice_set, is_err}
 use Rattle.fault.specs.declared.rules.Fault.{Fault}
 use Rattle.fault.specs.declared.rules.Rule.{Rule}
 use Rattle.fault.specs.declared.rules.Rule.TheVariants.{Disorder, TooManyRows, TooManyStrings}
@@ -54,7 +54,7 @@ fits_after rows width n s = cond (nat_le (length rows * width) (cells_left s)) (
 
 -- strings first, then rows
 abbrev pub rows_reply : Learned → List Row → ℕ → Store → Result (Unit {0}) Fault
-rows_reply l rows width s = cond (is_none l.room) (Err (of_supply TooManyStrings)) (fits_reply rows width s)
+rows_reply l rows width s = cond (is_err l.room) (Err (of_supply TooManyStrings)) (fits_reply rows width s)
 
 -- Rows added one after the other, up to one that is refused.
 pub record Filled : Type 0 where
@@ -93,7 +93,7 @@ take_reply cs text known l n width s =
 abbrev pub read_after : List (List ℕ) → Learned → ℕ → ℕ → Store → Reading (List (List Value)) → Store
 read_after known l n width s (refused rule r) = s
 read_after known l n width s (taken rows r) =
-    cond (is_none (learn_rows known l rows).room) s (fits_after (table_rows known (learn_rows known l rows) rows) width n s)
+    cond (is_err (learn_rows known l rows).room) s (fits_after (table_rows known (learn_rows known l rows) rows) width n s)
 
 abbrev pub take_after : List Column → List ℕ → List (List ℕ) → Learned → ℕ → ℕ → Store → Store
 take_after cs text known l n width s =
