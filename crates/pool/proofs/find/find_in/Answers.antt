@@ -16,4 +16,5 @@ returns-clause-value c =
     let first = index_from_first (position_or_len p) (λ s. p s ≡ true) (λ s. p s ≡ false) refl (λ s ss h. rw (h, prefix_len) refl) (λ s ss h. rw (h, prefix_len) (omega arith)) spans c.position.result
     (IsFirst-from_position _ _ _ (λ s. p s ≡ true) (λ s. p s ≡ false) c.position.ensures.ran (YieldsList-from_slice spans c.iter.ensures.rest)
     (λ x q k. search (rules, tests)) (λ x q k. search (rules, tests))) in
-    place_is c.args.bytes.now c.args.wanted.now c.position.result spans (search rules) first
+    let found = place_is c.args.bytes.now c.args.wanted.now c.position.result spans (search rules) first in
+    search (rules, found)
