@@ -1,4 +1,4 @@
-use Rattle.std.proofs.Common.{[], length, Err, sym, ap, ◌∙◌}
+use Rattle.std.proofs.Common.{◌≡◌, true, false, [], length, Err, is_ok, sym, ap, ◌∙◌, rules}
 use Rattle.std.proofs.lemmas.List.{take_all}
 use Rattle.fault.specs.Limits.{text_bytes}
 use Rattle.schema.specs.Columns.{held}
@@ -27,6 +27,7 @@ fill_rows-requires g c = sym (c.in_ok-heading.ensures.same ∙ (c.new-reader.ens
 
 pub returns-then-is_ok : goal.returns-then-is_ok
 returns-then-is_ok g c =
+    let told : is_ok c.fill_rows.result ≡ true = search rules in
     let held-now = held c.args.self.schema.now in
     let w = length held-now in
     let m = g.S.RowStore.meaning c.args.store.now in
@@ -39,11 +40,12 @@ returns-then-is_ok g c =
     let cells = cell_rows strings rows in
     let all = text_wide strings c.args.self.script.now held-now (text_of c.args.self) rows e in
     let done = c.fill_rows.ensures rows [] follow wide in
-    let whole = sym done.0 ∙ (sym c.is_ok.ensures.value ∙ c.if-is_ok.true) in
+    let whole = sym done.0 ∙ told in
     settled_rows m m1 c.args.table c.width.result w ok c.width.ensures c.in_ok-open.ensures.after cells all whole _ _ _ done.1 c.settle.ensures.reply c.settle.ensures.after
 
 pub returns-in_err-drop_last : goal.returns-in_err-drop_last
 returns-in_err-drop_last g c =
+    let told : is_ok c.fill_rows.result ≡ false = search rules in
     let held-now = held c.args.self.schema.now in
     let w = length held-now in
     let m = g.S.RowStore.meaning c.args.store.now in
@@ -56,12 +58,13 @@ returns-in_err-drop_last g c =
     let cells = cell_rows strings rows in
     let all = text_wide strings c.args.self.script.now held-now (text_of c.args.self) rows e in
     let done = c.fill_rows.ensures rows [] follow wide in
-    let whole = sym done.0 ∙ (sym c.is_ok.ensures.value ∙ c.if-is_ok.false) in
+    let whole = sym done.0 ∙ told in
     let three = dropped_rows m m1 c.args.table c.width.result w ok c.width.ensures c.in_ok-open.ensures.after cells all whole _ _ done.1 c.drop_last.ensures.after in
     absurd (err_not_ok _ tt (c.in_err-drop_last.ensures.reply ∙ three.0))
 
 pub returns : goal.returns
 returns g c =
+    let told : is_ok c.fill_rows.result ≡ false = search rules in
     let held-now = held c.args.self.schema.now in
     let w = length held-now in
     let m = g.S.RowStore.meaning c.args.store.now in
@@ -74,6 +77,6 @@ returns g c =
     let cells = cell_rows strings rows in
     let all = text_wide strings c.args.self.script.now held-now (text_of c.args.self) rows e in
     let done = c.fill_rows.ensures rows [] follow wide in
-    let whole = sym done.0 ∙ (sym c.is_ok.ensures.value ∙ c.if-is_ok.false) in
+    let whole = sym done.0 ∙ told in
     let three = dropped_rows m m1 c.args.table c.width.result w ok c.width.ensures c.in_ok-open.ensures.after cells all whole _ _ done.1 c.drop_last.ensures.after in
     (ap Err c.of_supply.ensures ∙ three.1, three.2)
