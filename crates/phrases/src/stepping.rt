@@ -44,6 +44,7 @@ impl<'a> Parser<'a> {
     // Pulls the next token; what is no token is the text's fault.
     pub fn advance(&mut self) -> Result<(), Fault>
         ensures lent { SameArena self.old self.new }
+        ensures entries { self.new.nodes.now ≡ self.old.nodes.now }
         ensures count { self.new.count ≡ self.old.count }
         ensures paid { OnOk result (worth self.new + pays_ahead (spoken self.old.ahead.token) ≤ worth self.old) }
         ensures step { (text : Bytes) (arena : List Node) → Grounded text arena self.old → Stepped text arena self.old self.new result }
@@ -55,6 +56,7 @@ impl<'a> Parser<'a> {
     // Passes the token ahead, which has to be this word or sign.
     pub fn expect(&mut self, wanted: Wanted) -> Result<(), Fault>
         ensures lent { SameArena self.old self.new }
+        ensures entries { self.new.nodes.now ≡ self.old.nodes.now }
         ensures count { self.new.count ≡ self.old.count }
         ensures paid { OnOk result (worth self.new < worth self.old) }
         ensures step { (text : Bytes) (arena : List Node) → Grounded text arena self.old → Expected text arena (wanted_of wanted) self.old self.new result }
@@ -69,6 +71,7 @@ impl<'a> Parser<'a> {
     pub fn open(&mut self, depth: u8) -> Result<u8, Fault>
         requires token { AtToken self.old }
         ensures lent { SameArena self.old self.new }
+        ensures entries { self.new.nodes.now ≡ self.old.nodes.now }
         ensures count { self.new.count ≡ self.old.count }
         ensures paid { OnOk result (worth self.new + pays_ahead (spoken self.old.ahead.token) ≤ worth self.old) }
         ensures step { (text : Bytes) (arena : List Node) → Grounded text arena self.old → Opened text arena depth self.old self.new result }

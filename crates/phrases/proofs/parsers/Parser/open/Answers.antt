@@ -5,7 +5,7 @@ use Rattle.phrases.proofs.parsers.Parser.open.Goals as goal
 
 pub returns-then-depth-eq0-clause-step : goal.returns-then-depth-eq0-clause-step
 returns-then-depth-eq0-clause-step c =
-    λ text xs g. opened_none text _ _ c.args.self.now c.args.self.now _ c.if-depth-eq0.true c.requires.token g c.refuse.ensures
+    λ text xs g. opened_none text _ _ c.args.self.now _ _ c.if-depth-eq0.true c.requires.token g c.refuse.ensures
 
 pub returns-in_err-advance-clause-step : goal.returns-in_err-advance-clause-step
 returns-in_err-advance-clause-step c =
