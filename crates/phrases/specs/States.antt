@@ -1,5 +1,5 @@
 -- The parser's state as the grammar sees it, and what a step of it does.
-use Rattle.std.specs.Prelude.{◌≡◌, ℕ, zero, suc, ◌+◌, ◌<◌, ◌≤◌, List, [], ◌∷◌, Some, None, Ok, Err, Option, Result, OnOk}
+use Rattle.std.specs.Prelude.{◌≡◌, ℕ, zero, suc, ◌+◌, ◌<◌, ◌≤◌, List, [], ◌∷◌, length, Some, None, Ok, Err, Option, Result, OnOk}
 use Rattle.std.proofs.Math.Option.{Option as Maybe, none, some}
 use Rattle.fault.specs.declared.rules.Fault.{Fault}
 use Rattle.fault.specs.declared.rules.Rule.{Rule}
@@ -51,6 +51,10 @@ AtToken p = 0 < pays_ahead (spoken p.ahead.token)
 -- a state and a later one have the same lent arena
 abbrev pub SameArena : Parser → Parser → Type 0
 SameArena a b = b.nodes.ghost_name ≡ a.nodes.ghost_name
+
+-- the arena keeps its length
+abbrev pub SameLength : Parser → Parser → Type 0
+SameLength a b = length b.nodes.now ≡ length a.nodes.now
 
 -- words and signs by number, the end by one of its own
 abbrev pub code_ahead : Option Terminal → ℕ
@@ -156,14 +160,14 @@ abbrev pub AnswersOn : Holding → (Part → Reader) → ℕ → Parser → Pars
 AnswersOn P reader i a b r =
     (text : Bytes) (arena : List Node) → Grounded text arena a → (from : ℕ) (t : Part) → P text arena from a.count i t → Answers P text (reader t (tokens_ahead a)) from a b arena b.nodes.now r
 
--- what a function that reads a part does: the same lent arena, a token at least and its nodes paid for, and the reader's answer
+-- what a function that reads a part does: the same lent arena at its length, a token at least and its nodes paid for, and the reader's answer
 pub record Follows (P : Holding) (reader : Reader) (a b : Parser) (r : Result ℕ Fault) : Type 0 where
-  pub lent : SameArena a b
+  pub lent : SameArena a b × SameLength a b
   pub numbers : OnOk r (Numbers a b)
   pub answer : AnswersAs P reader a b r
 
 -- the same of one that goes on, where perhaps no token is read
 pub record GoesOn (P : Holding) (reader : Part → Reader) (i : ℕ) (a b : Parser) (r : Result ℕ Fault) : Type 0 where
-  pub lent : SameArena a b
+  pub lent : SameArena a b × SameLength a b
   pub numbers : OnOk r (NumbersOn a b)
   pub answer : AnswersOn P reader i a b r

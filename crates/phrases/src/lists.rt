@@ -5,8 +5,8 @@ ghost use Rattle.grammar.specs.Promise.{any_token};
 ghost use Rattle.grammar.specs.Readers.{read_level, rest, read_attribute, read_tuple, brackets_at};
 ghost use Rattle.phrases.specs.Held.{Held};
 ghost use Rattle.phrases.specs.Sorts.{Listed, level_of, item_reader, relinked};
-ghost use Rattle.phrases.specs.Elements.{Moves, Reads};
-ghost use Rattle.phrases.specs.States.{SameArena, Numbers, NumbersOn, Follows, AnswersAs, AnswersOn};
+ghost use Rattle.phrases.specs.Elements.{Moves, Keeps, Reads};
+ghost use Rattle.phrases.specs.States.{SameArena, SameLength, Numbers, NumbersOn, Follows, AnswersAs, AnswersOn};
 ghost use Rattle.tree.specs.Holds.{node_at};
 
 use crate::leaves::leaf;
@@ -46,7 +46,7 @@ pub fn tuple_const(parser: &mut Parser<'_>) -> Result<u16, Fault>
 }
 
 // A list of one element or more, each read by `item`; the answer is its first.
-// Three clauses and no `Follows`, for only the answer asks that `item` reads as the grammar does.
+// Clauses and no `Follows`, for only the answer asks that `item` reads as the grammar does, and only the length that `item` keeps it.
 pub fn list<F: Fn(&mut Parser<'_>) -> Result<u16, Fault>>(
     parser: &mut Parser<'_>,
     item: F,
@@ -54,6 +54,7 @@ pub fn list<F: Fn(&mut Parser<'_>) -> Result<u16, Fault>>(
     requires callable { F.IsAlwaysCallable item }
     requires moves { Moves F.Fn item }
     ensures lent { SameArena parser.old parser.new }
+    ensures long { Keeps F.Fn item → SameLength parser.old parser.new }
     ensures numbers { OnOk result (Numbers parser.old parser.new) }
     ensures answer { (listed : Listed) → Reads F.Fn item listed → (n : ℕ) → AnswersAs (Held (level_of listed)) (read_level (item_reader n listed) (brackets_at any_token n) (level_of listed)) parser.old parser.new result }
 {
@@ -71,6 +72,7 @@ fn more_items<F: Fn(&mut Parser<'_>) -> Result<u16, Fault>>(
     requires callable { F.IsAlwaysCallable item }
     requires moves { Moves F.Fn item }
     ensures lent { SameArena parser.old parser.new }
+    ensures long { Keeps F.Fn item → SameLength parser.old parser.new }
     ensures numbers { OnOk result (NumbersOn parser.old parser.new) }
     ensures answer { (listed : Listed) → Reads F.Fn item listed → (n : ℕ) → AnswersOn (Held (level_of listed)) (rest (item_reader n listed) (brackets_at any_token n) (level_of listed)) first parser.old parser.new result }
 {
