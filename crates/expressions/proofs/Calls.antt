@@ -32,7 +32,8 @@ use Rattle.phrases.proofs.Steps.{opened_is}
 use Rattle.words.specs.Views.{spoken}
 use Rattle.expressions.specs.Starts.{bracketed_of}
 use Rattle.expressions.specs.Shapes.{Expressed, Assigned, Inside, argument_for}
-use Rattle.phrases.specs.Sorts.{Listed, item_reader, level_of as list_level}
+use Rattle.phrases.specs.declared.sorts.Listed.{Listed}
+use Rattle.phrases.specs.Sorts.{item_reader, level_of as list_level}
 use Rattle.expressions.proofs.Readings.{onward, assigned_third, assigned_found, extend_second, extend_found}
 use Rattle.expressions.proofs.Nodes.{assigned_held, extend_held}
 

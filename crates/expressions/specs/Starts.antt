@@ -1,6 +1,7 @@
 -- What a token is where an expression goes on or a factor begins, as the code has it.
 use Rattle.std.specs.Prelude.{ℕ, ◌+◌, Bool, true, false, Some, None, Option}
-use Rattle.phrases.specs.Sorts.{Listed, Listed.listed_types, Listed.listed_tuples}
+use Rattle.phrases.specs.declared.sorts.Listed.{Listed}
+use Rattle.phrases.specs.declared.sorts.Listed.TheVariants as listed
 use Rattle.words.specs.declared.tokens.Word.TheVariants.{Program, End, Table, If, Then, Else, While, Do, Read, Write, Join, Not, Project, Select, Exists}
 use Rattle.words.specs.declared.tokens.Word.TheVariants.{All, Update, Extend, Rename}
 use Rattle.words.specs.declared.tokens.Sum.TheVariants.{Plus, Minus}
@@ -277,8 +278,8 @@ instance_of false = instance.Types
 
 -- the sort of its elements
 abbrev pub listed_of : Instance → Listed
-listed_of instance.Tuples = listed_tuples
-listed_of instance.Types = listed_types
+listed_of instance.Tuples = listed.Tuples
+listed_of instance.Types = listed.Types
 
 abbrev pub table_node : Instance → ℕ → What
 table_node instance.Tuples first = what.TableOfTuples first

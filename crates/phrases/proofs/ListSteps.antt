@@ -26,7 +26,8 @@ use Rattle.tree.proofs.Stable.{Agree, Firm, Ordered, Stable, chain_order, chain_
 use Rattle.tree.proofs.Stable.{name_order, type_order, constant_order, attribute_order, tuple_order, name_stable, type_stable, constant_stable, attribute_stable, tuple_stable}
 use Rattle.tree.proofs.Stable.{expression_stable, statements_stable}
 use Rattle.tree.proofs.Grown.{below_firm, below_agree}
-use Rattle.phrases.specs.Sorts.{Listed, Listed.listed_names, Listed.listed_types, Listed.listed_constants, Listed.listed_attributes, Listed.listed_tuples}
+use Rattle.phrases.specs.declared.sorts.Listed.{Listed}
+use Rattle.phrases.specs.declared.sorts.Listed.TheVariants as listed
 use Rattle.phrases.specs.Held.{Held, ListHeld}
 use Rattle.phrases.specs.Sorts.{level_of, item_reader, relinked}
 use Rattle.phrases.specs.States.{before, code_ahead, broken_in, refused_by, Halts}
@@ -94,12 +95,12 @@ pub held_link : (d : Listed) (text : Bytes) (xs ys zs : List Node) (from m upto 
     Held (level_of d) text xs from m first t → Held (level_of d) text ys m upto next u → Below m xs ys → m - 1 < length ys → zs ≡ set ys (m - 1) (relinked (node_at ys (m - 1)) next) →
     Held (level_of d) text zs from upto first (combine commas p t u)
 unfolding Held
-held_link listed_names text xs ys zs from m upto first next p t u h k b r w = list_link (HoldsName text) (name_order text) (name_stable text) xs ys zs from m upto first next t.names u.names h k b r w
-held_link listed_types text xs ys zs from m upto first next p t u (h, e) (k, f) b r w =
+held_link listed.Names text xs ys zs from m upto first next p t u h k b r w = list_link (HoldsName text) (name_order text) (name_stable text) xs ys zs from m upto first next t.names u.names h k b r w
+held_link listed.Types text xs ys zs from m upto first next p t u (h, e) (k, f) b r w =
     (list_link (HoldsType text) (type_order text) (type_stable text) xs ys zs from m upto first next t.types u.types h k b r w, both_none t.tuples u.tuples e f)
-held_link listed_constants text xs ys zs from m upto first next p t u h k b r w = list_link (HoldsConstant text) (constant_order text) (constant_stable text) xs ys zs from m upto first next t.constants u.constants h k b r w
-held_link listed_attributes text xs ys zs from m upto first next p t u h k b r w = list_link (HoldsAttribute text) (attribute_order text) (attribute_stable text) xs ys zs from m upto first next t.attributes u.attributes h k b r w
-held_link listed_tuples text xs ys zs from m upto first next p t u h k b r w = list_link (HoldsTuple text) (tuple_order text) (tuple_stable text) xs ys zs from m upto first next t.tuples u.tuples h k b r w
+held_link listed.Constants text xs ys zs from m upto first next p t u h k b r w = list_link (HoldsConstant text) (constant_order text) (constant_stable text) xs ys zs from m upto first next t.constants u.constants h k b r w
+held_link listed.Attributes text xs ys zs from m upto first next p t u h k b r w = list_link (HoldsAttribute text) (attribute_order text) (attribute_stable text) xs ys zs from m upto first next t.attributes u.attributes h k b r w
+held_link listed.Tuples text xs ys zs from m upto first next p t u h k b r w = list_link (HoldsTuple text) (tuple_order text) (tuple_stable text) xs ys zs from m upto first next t.tuples u.tuples h k b r w
 
 -- a linked node changes nothing below the list, and nothing behind it
 pub link_below : (from last next : ℕ) (ys zs : List Node) → from ≤ last → zs ≡ set ys last (relinked (node_at ys last) next) → Below from ys zs
@@ -110,11 +111,11 @@ link_beyond upto last next ys zs h e j l = linked_other ys zs last next j (λ z.
 
 pub held_some : (d : Listed) (text : Bytes) (xs : List Node) (from m first : ℕ) (t : Part) → Held (level_of d) text xs from m first t → from < m
 unfolding Held
-held_some listed_names text xs from m first t (l, e, h) = let r = chain_order (HoldsName text) (name_order text) xs from l first t.names h in omega (arith, e, r.0, r.1)
-held_some listed_types text xs from m first t ((l, e, h), z) = let r = chain_order (HoldsType text) (type_order text) xs from l first t.types h in omega (arith, e, r.0, r.1)
-held_some listed_constants text xs from m first t (l, e, h) = let r = chain_order (HoldsConstant text) (constant_order text) xs from l first t.constants h in omega (arith, e, r.0, r.1)
-held_some listed_attributes text xs from m first t (l, e, h) = let r = chain_order (HoldsAttribute text) (attribute_order text) xs from l first t.attributes h in omega (arith, e, r.0, r.1)
-held_some listed_tuples text xs from m first t (l, e, h) = let r = chain_order (HoldsTuple text) (tuple_order text) xs from l first t.tuples h in omega (arith, e, r.0, r.1)
+held_some listed.Names text xs from m first t (l, e, h) = let r = chain_order (HoldsName text) (name_order text) xs from l first t.names h in omega (arith, e, r.0, r.1)
+held_some listed.Types text xs from m first t ((l, e, h), z) = let r = chain_order (HoldsType text) (type_order text) xs from l first t.types h in omega (arith, e, r.0, r.1)
+held_some listed.Constants text xs from m first t (l, e, h) = let r = chain_order (HoldsConstant text) (constant_order text) xs from l first t.constants h in omega (arith, e, r.0, r.1)
+held_some listed.Attributes text xs from m first t (l, e, h) = let r = chain_order (HoldsAttribute text) (attribute_order text) xs from l first t.attributes h in omega (arith, e, r.0, r.1)
+held_some listed.Tuples text xs from m first t (l, e, h) = let r = chain_order (HoldsTuple text) (tuple_order text) xs from l first t.tuples h in omega (arith, e, r.0, r.1)
 
 -- a comma goes on with a list, every other token ends it
 comma_turn : (t : Terminal) (p : Place) → turn_if 1 (between_in t p) ≡ cond (eqb 26 (code_in t)) (take_operator commas) stop
@@ -158,25 +159,25 @@ comma_turn (name x) p = refl
 comma_turn (broken r) p = refl
 
 list_turn : (d : Listed) (t : Terminal) (p : Place) → turn_at (level_of d) (t at p) ≡ turn_if 1 (between_in t p)
-list_turn listed_names t p = refl
-list_turn listed_types t p = refl
-list_turn listed_constants t p = refl
-list_turn listed_attributes t p = refl
-list_turn listed_tuples t p = refl
+list_turn listed.Names t p = refl
+list_turn listed.Types t p = refl
+list_turn listed.Constants t p = refl
+list_turn listed.Attributes t p = refl
+list_turn listed.Tuples t p = refl
 
 pub item_shorter : (n : ℕ) (d : Listed) → Shorter (item_reader n d)
-item_shorter n listed_names = leaf_shorter name_leaf
-item_shorter n listed_types = leaf_shorter type_leaf
-item_shorter n listed_constants = leaf_shorter constant_leaf
-item_shorter n listed_attributes = attribute_shorter
-item_shorter n listed_tuples = tuple_shorter n
+item_shorter n listed.Names = leaf_shorter name_leaf
+item_shorter n listed.Types = leaf_shorter type_leaf
+item_shorter n listed.Constants = leaf_shorter constant_leaf
+item_shorter n listed.Attributes = attribute_shorter
+item_shorter n listed.Tuples = tuple_shorter n
 
 list_again : (d : Listed) → level_after (level_of d) ≡ level_of d
-list_again listed_names = refl
-list_again listed_types = refl
-list_again listed_constants = refl
-list_again listed_attributes = refl
-list_again listed_tuples = refl
+list_again listed.Names = refl
+list_again listed.Types = refl
+list_again listed.Constants = refl
+list_again listed.Attributes = refl
+list_again listed.Tuples = refl
 
 -- without a comma the list is what it is
 pub list_stops : (n : ℕ) (d : Listed) (t : Part) (k : Option Terminal) (p : Place) (s : List Token) → eqb 26 (code_ahead k) ≡ false → rest (item_reader n d) (brackets_at any_token n) (level_of d) t (before k p s) ≡ read t (before k p s)
@@ -204,11 +205,11 @@ list_halts end n d t c p q = ap (refused_by end) (list_stops n d t (Some (broken
 -- no element begins with it
 pub item_halts : (end : Place) (n : ℕ) (d : Listed) (g : Part → List Token → Outcome) → Halts end (λ s. and_then (item_reader n d s) g)
 unfolding refused_by read_leaf read_attribute read_tuple expect_token
-item_halts end n listed_names g c p q = refl
-item_halts end n listed_types g c p q = refl
-item_halts end n listed_constants g c p q = refl
-item_halts end n listed_attributes g c p q = refl
-item_halts end n listed_tuples g c p q = refl
+item_halts end n listed.Names g c p q = refl
+item_halts end n listed.Types g c p q = refl
+item_halts end n listed.Constants g c p q = refl
+item_halts end n listed.Attributes g c p q = refl
+item_halts end n listed.Tuples g c p q = refl
 
 -- a type alone, and a name alone
 pub one_type : (text : Bytes) (xs : List Node) (from m i : ℕ) (y : AtomicType) → Held type_level text xs from m i (type_part y) → (m ≡ suc i) × HoldsType text xs from i y
@@ -233,7 +234,7 @@ pub attribute_held : (text : Bytes) (xs ys zs : List Node) (from m upto i j : �
     Held type_level text xs from m i t → Held name_level text ys m upto j u → Below m xs ys → Below upto ys zs → Says zs upto (what.Attribute i j) p → (node_at zs upto).next ≡ None →
     Held attribute_level text zs from (suc upto) upto (attribute_declaration t u)
 attribute_held text xs ys zs from m upto i j t u d p x q e f h k b c says next =
-    let z = held_some listed_names text ys m upto j u k in
+    let z = held_some listed.Names text ys m upto j u k in
     subst (λ v. Held attribute_level text zs from (suc upto) upto (attribute_declaration v u)) (sym e)
     (subst (λ v. Held attribute_level text zs from (suc upto) upto (attribute_declaration (type_part (typed d p)) v)) (sym f)
     (attribute_made text zs from m upto i j (typed d p) (named x q)
@@ -260,16 +261,16 @@ found_halts end t c p q = refl
 -- neither is a list
 pub level_halts : (end : Place) (n : ℕ) (d : Listed) (g : Part → List Token → Outcome) → Halts end (λ s. and_then (read_level (item_reader n d) (brackets_at any_token n) (level_of d) s) g)
 unfolding refused_by read_level read_leaf read_attribute read_tuple expect_token
-level_halts end n listed_names g c p q = refl
-level_halts end n listed_types g c p q = refl
-level_halts end n listed_constants g c p q = refl
-level_halts end n listed_attributes g c p q = refl
-level_halts end n listed_tuples g c p q = refl
+level_halts end n listed.Names g c p q = refl
+level_halts end n listed.Types g c p q = refl
+level_halts end n listed.Constants g c p q = refl
+level_halts end n listed.Attributes g c p q = refl
+level_halts end n listed.Tuples g c p q = refl
 
 -- an attribute by its parts
 pub attribute_first : (end : Place) (s : List Token) (f : Fault) → refused_by end (read_leaf type_leaf s) ≡ some f → refused_by end (read_attribute s) ≡ some f
 unfolding read_attribute
-attribute_first end s f h = refused_first end (read_leaf type_leaf s) (λ t r. and_then (read_leaf name_leaf r) (λ u q. read (attribute_declaration t u) q)) f (λ t. item_halts end 0 listed_names (λ u q. read (attribute_declaration t u) q)) h
+attribute_first end s f h = refused_first end (read_leaf type_leaf s) (λ t r. and_then (read_leaf name_leaf r) (λ u q. read (attribute_declaration t u) q)) f (λ t. item_halts end 0 listed.Names (λ u q. read (attribute_declaration t u) q)) h
 
 pub attribute_second : (end : Place) (s : List Token) (t : Part) (r : List Token) (f : Fault) → read_leaf type_leaf s ≡ read t r → refused_by end (read_leaf name_leaf r) ≡ some f → refused_by end (read_attribute s) ≡ some f
 unfolding read_attribute
@@ -286,7 +287,7 @@ pub tuple_first : (end : Place) (n : ℕ) (s : List Token) (f : Fault) → refus
 unfolding read_tuple
 tuple_first end n s f h =
     refused_first end (expect_token left_parenthesis s) (λ z r. and_then (read_level (read_leaf constant_leaf) (brackets_at any_token n) constant_level r) (λ t q. and_then (expect_token right_parenthesis q) (λ _ p. read (tuple_constant z t) p))) f
-    (λ z. level_halts end n listed_constants (λ t q. and_then (expect_token right_parenthesis q) (λ _ p. read (tuple_constant z t) p))) h
+    (λ z. level_halts end n listed.Constants (λ t q. and_then (expect_token right_parenthesis q) (λ _ p. read (tuple_constant z t) p))) h
 
 pub tuple_second : (end : Place) (n : ℕ) (s : List Token) (z : Part) (r : List Token) (f : Fault) → expect_token left_parenthesis s ≡ read z r → refused_by end (read_level (read_leaf constant_leaf) (brackets_at any_token n) constant_level r) ≡ some f →
     refused_by end (read_tuple (brackets_at any_token n) s) ≡ some f

@@ -5,7 +5,8 @@ use denote.Ref.{MutBor}
 use Rattle.fault.specs.declared.rules.Fault.{Fault}
 use Rattle.phrases.specs.declared.parsers.Parser.{Parser}
 use Rattle.phrases.specs.Held.{Held}
-use Rattle.phrases.specs.Sorts.{Listed, level_of, item_reader}
+use Rattle.phrases.specs.declared.sorts.Listed.{Listed}
+use Rattle.phrases.specs.Sorts.{level_of, item_reader}
 use Rattle.phrases.specs.States.{SameArena, SameLength, Numbers, AnswersAs}
 
 -- a reader of elements, as the clauses see it

@@ -10,6 +10,8 @@ use Rattle.phrases.specs.declared.sorts.Wanted.{Wanted}
 use Rattle.phrases.specs.declared.sorts.Wanted.TheVariants as wanted
 use Rattle.phrases.specs.declared.sorts.Leaf.{Leaf as Sort}
 use Rattle.phrases.specs.declared.sorts.Leaf.TheVariants as sort
+use Rattle.phrases.specs.declared.sorts.Listed.{Listed}
+use Rattle.phrases.specs.declared.sorts.Listed.TheVariants as listed
 
 -- the terminal that is wanted
 abbrev pub wanted_of : Wanted → Terminal
@@ -27,24 +29,20 @@ leaf_of sort.Name = name_leaf
 leaf_of sort.Type = type_leaf
 leaf_of sort.Constant = constant_leaf
 
--- the lists that have commas
-pub data Listed : Type 0 where
-  listed_names listed_types listed_constants listed_attributes listed_tuples : Listed
-
 abbrev pub level_of : Listed → Level
-level_of listed_names = name_level
-level_of listed_types = type_level
-level_of listed_constants = constant_level
-level_of listed_attributes = attribute_level
-level_of listed_tuples = tuple_level
+level_of listed.Names = name_level
+level_of listed.Types = type_level
+level_of listed.Constants = constant_level
+level_of listed.Attributes = attribute_level
+level_of listed.Tuples = tuple_level
 
 -- what reads an element of a list, where n depths are left
 abbrev pub item_reader : ℕ → Listed → Reader
-item_reader n listed_names = read_leaf name_leaf
-item_reader n listed_types = read_leaf type_leaf
-item_reader n listed_constants = read_leaf constant_leaf
-item_reader n listed_attributes = read_attribute
-item_reader n listed_tuples = read_tuple (brackets_at any_token n)
+item_reader n listed.Names = read_leaf name_leaf
+item_reader n listed.Types = read_leaf type_leaf
+item_reader n listed.Constants = read_leaf constant_leaf
+item_reader n listed.Attributes = read_attribute
+item_reader n listed.Tuples = read_tuple (brackets_at any_token n)
 
 -- a node with another one behind it
 abbrev pub relinked : Node → ℕ → Node

@@ -4,14 +4,15 @@ ghost use Rattle.grammar.specs.Parts.{Level.attribute_level, Level.tuple_level};
 ghost use Rattle.grammar.specs.Promise.{any_token};
 ghost use Rattle.grammar.specs.Readers.{read_level, rest, read_attribute, read_tuple, brackets_at};
 ghost use Rattle.phrases.specs.Held.{Held};
-ghost use Rattle.phrases.specs.Sorts.{Listed, level_of, item_reader, relinked};
+ghost use Rattle.phrases.specs.declared.sorts.Listed.{Listed};
+ghost use Rattle.phrases.specs.Sorts.{level_of, item_reader, relinked};
 ghost use Rattle.phrases.specs.Elements.{Moves, Keeps, Reads};
 ghost use Rattle.phrases.specs.States.{SameArena, SameLength, Numbers, NumbersOn, Follows, AnswersAs, AnswersOn};
 ghost use Rattle.tree.specs.Holds.{node_at};
 
 use crate::leaves::leaf;
 use crate::parsers::Parser;
-use crate::sorts::{Leaf, Wanted};
+use crate::sorts::{Leaf, Listed, Wanted};
 use fault::Fault;
 use tree::{Node, What};
 use words::Sign;
@@ -60,6 +61,19 @@ pub fn list<F: Fn(&mut Parser<'_>) -> Result<u16, Fault>>(
 {
     let first = item(parser)?;
     more_items(parser, item, first)
+}
+
+// A list of elements of this sort; the answer is its first.
+pub fn list_of(parser: &mut Parser<'_>, listed: Listed) -> Result<u16, Fault>
+    ensures { (n : ℕ) → Follows (Held (level_of listed)) (read_level (item_reader n listed) (brackets_at any_token n) (level_of listed)) parser.old parser.new result }
+{
+    match listed {
+        Listed::Names => list(parser, |parser| leaf(parser, Leaf::Name)),
+        Listed::Types => list(parser, |parser| leaf(parser, Leaf::Type)),
+        Listed::Constants => list(parser, |parser| leaf(parser, Leaf::Constant)),
+        Listed::Attributes => list(parser, attr_decl),
+        Listed::Tuples => list(parser, tuple_const),
+    }
 }
 
 // The elements behind a comma each.

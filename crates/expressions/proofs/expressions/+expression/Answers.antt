@@ -1,6 +1,7 @@
 use Rattle.std.proofs.Common.{◌≡◌, ℕ, sym, refl, ap, ◌∙◌, subst, arith, rules}
 use Rattle.phrases.specs.declared.sorts.Wanted.TheVariants as wanted
-use Rattle.phrases.specs.Sorts.{Listed.listed_names, wanted_of}
+use Rattle.phrases.specs.declared.sorts.Listed.TheVariants as listed
+use Rattle.phrases.specs.Sorts.{wanted_of}
 use Rattle.std.proofs.lemmas.Result.{err_from_is_err_and}
 use Rattle.words.specs.Lexing.{end_of}
 use Rattle.words.specs.Tokens.{Token.◌at◌}
@@ -101,7 +102,7 @@ inside-returns-in-Names t c =
       lent = search rules;
       numbers = search rules;
       answer = λ text xs g. subst (λ w. Answers (Inside w) text (inside_reader c.args.depth w (tokens_ahead a)) a.count a c.list.new.parser xs c.list.new.parser.nodes.now c.list.result)
-          (argument_of_lem c.args.operator bracketed.Names c.in-Names.ensures) (inside_names text c.args.depth (tokens_ahead a) a.count a c.list.new.parser xs c.list.new.parser.nodes.now c.list.result (c.list.ensures.answer listed_names (record { follows = λ p q r e n. search rules }) c.args.depth text _ g));
+          (argument_of_lem c.args.operator bracketed.Names c.in-Names.ensures) (inside_names text c.args.depth (tokens_ahead a) a.count a c.list.new.parser xs c.list.new.parser.nodes.now c.list.result (c.list.ensures.answer listed.Names (record { follows = λ p q r e n. search rules }) c.args.depth text _ g));
     }
 
 pub inside-returns-in-Condition : goal.inside-returns-in-Condition

@@ -1,5 +1,5 @@
 use Rattle.std.proofs.Common.{rules}
-use Rattle.phrases.specs.Sorts.{Listed.listed_tuples}
+use Rattle.phrases.specs.declared.sorts.Listed.TheVariants as listed
 use Rattle.expressions.proofs.tables.elements.Goals as goal
 
 pub list-requires-clause-moves : goal.list-requires-clause-moves
@@ -9,5 +9,5 @@ pub returns-in-Tuples : goal.returns-in-Tuples
 returns-in-Tuples c = λ n. record {
   lent = (c.list.ensures.lent, c.list.ensures.long (record { long = λ p q r e. (e 0).lent.1 }));
   numbers = search rules;
-  answer = rw (c.in-Tuples.is) (c.list.ensures.answer listed_tuples (record { follows = λ p q r e m. (e m).answer }) n);
+  answer = rw (c.in-Tuples.is) (c.list.ensures.answer listed.Tuples (record { follows = λ p q r e m. (e m).answer }) n);
 }

@@ -3,7 +3,7 @@ use Rattle.std.proofs.lemmas.Result.{err_from_is_err_and}
 use Rattle.words.specs.Lexing.{end_of}
 use Rattle.grammar.specs.Parts.{tuple_constant, place_part, Level.constant_level}
 use Rattle.phrases.specs.Held.{Held}
-use Rattle.phrases.specs.Sorts.{Listed.listed_constants}
+use Rattle.phrases.specs.declared.sorts.Listed.TheVariants as listed
 use Rattle.phrases.specs.States.{ahead_at}
 use Rattle.phrases.proofs.ListSteps.{tuple_first, tuple_second, tuple_third, tuple_found, tuple_held}
 use Rattle.phrases.proofs.Puts.{done_put, answered, refusal}
@@ -28,7 +28,7 @@ returns-in_err-first c =
       answer = λ text xs g.
           let k = expected_ok text _ _ a b _ (c.in_ok-expect.ensures.step text xs g) in
           answers_err _ text _ _ _ _ _ _ _ _ (err_from_is_err_and c.from_residual-in_err-first.result c.from_residual-in_err-first.ensures.1)
-          (tuple_second (end_of text) n _ _ _ _ k.1 (refusal _ text _ _ b c.list.new.parser xs c.list.new.parser.nodes.now _ (c.in_err-first.ensures.answer listed_constants (record { follows = λ p q r e n. search rules }) n text _ k.0)));
+          (tuple_second (end_of text) n _ _ _ _ k.1 (refusal _ text _ _ b c.list.new.parser xs c.list.new.parser.nodes.now _ (c.in_err-first.ensures.answer listed.Constants (record { follows = λ p q r e n. search rules }) n text _ k.0)));
     }
 
 pub returns-in_err-expect-2 : goal.returns-in_err-expect-2
@@ -41,7 +41,7 @@ returns-in_err-expect-2 c =
       numbers = search rules;
       answer = λ text xs g.
           let k = expected_ok text _ _ a b _ (c.in_ok-expect.ensures.step text xs g) in
-          let v = answered _ text _ _ b d xs c.list.new.parser.nodes.now _ (c.in_ok-first.ensures.answer listed_constants (record { follows = λ p q r e n. search rules }) n text _ k.0) in
+          let v = answered _ text _ _ b d xs c.list.new.parser.nodes.now _ (c.in_ok-first.ensures.answer listed.Constants (record { follows = λ p q r e n. search rules }) n text _ k.0) in
           answers_err _ text _ _ _ _ _ _ _ _ (err_from_is_err_and c.from_residual-in_err-expect-2.result c.from_residual-in_err-expect-2.ensures.1)
           (tuple_third (end_of text) n _ _ _ _ _ _ k.1 v.value (expected_broken text _ _ d c.expect-2.new.self _ (c.in_err-expect-2.ensures.step text _ v.grounded)));
     }
@@ -60,7 +60,7 @@ returns c =
       numbers = search rules;
       answer = λ text xs g.
           let k = expected_ok text _ _ a b _ (s.step text xs g) in
-          let v = answered _ text _ _ b d xs c.list.new.parser.nodes.now _ (i.answer listed_constants (record { follows = λ p q r e n. search rules }) n text _ k.0) in
+          let v = answered _ text _ _ b d xs c.list.new.parser.nodes.now _ (i.answer listed.Constants (record { follows = λ p q r e n. search rules }) n text _ k.0) in
           let w = expected_ok text _ _ d e _ (z.step text _ v.grounded) in
           done_put _ text _ _ a e c.put.new.self xs c.list.new.parser.nodes.now _ (ahead_at a) (tuple_constant (place_part (ahead_at a)) v.part) _
           c.put.ensures.state c.put.ensures.nodes c.put.ensures.root (tuple_found n _ _ _ _ _ _ _ k.1 v.value w.1) w.0
