@@ -26,7 +26,7 @@ use words::Sign;
 
 // expr → bool-term { (and | or) bool-term }
 #[cycle(expression)]
-pub fn expr(parser: &mut Parser<'_>, depth: u8) -> Result<u16, Fault>
+pub fn expr(parser: &mut Parser<'_, '_>, depth: u8) -> Result<u16, Fault>
     ensures { Follows Expressed (expressions_at any_token depth) parser.old parser.new result }
 {
     level(parser, depth, Level::Logic)
@@ -34,7 +34,7 @@ pub fn expr(parser: &mut Parser<'_>, depth: u8) -> Result<u16, Fault>
 
 // bool-term → comp-term [ (== | != | > | >= | < | <=) comp-term ]
 #[cycle(expression)]
-fn bool_term(parser: &mut Parser<'_>, depth: u8) -> Result<u16, Fault>
+fn bool_term(parser: &mut Parser<'_, '_>, depth: u8) -> Result<u16, Fault>
     ensures { Follows Expressed (level_reader depth rank.Comparison) parser.old parser.new result }
 {
     level(parser, depth, Level::Comparison)
@@ -42,7 +42,7 @@ fn bool_term(parser: &mut Parser<'_>, depth: u8) -> Result<u16, Fault>
 
 // comp-term → low-term { (+ | -) low-term }
 #[cycle(expression)]
-fn comp_term(parser: &mut Parser<'_>, depth: u8) -> Result<u16, Fault>
+fn comp_term(parser: &mut Parser<'_, '_>, depth: u8) -> Result<u16, Fault>
     ensures { Follows Expressed (level_reader depth rank.Sum) parser.old parser.new result }
 {
     level(parser, depth, Level::Sum)
@@ -50,7 +50,7 @@ fn comp_term(parser: &mut Parser<'_>, depth: u8) -> Result<u16, Fault>
 
 // low-term → factor { (* | / | join-op) factor }
 #[cycle(expression)]
-fn low_term(parser: &mut Parser<'_>, depth: u8) -> Result<u16, Fault>
+fn low_term(parser: &mut Parser<'_, '_>, depth: u8) -> Result<u16, Fault>
     ensures { Follows Expressed (level_reader depth rank.Product) parser.old parser.new result }
 {
     level(parser, depth, Level::Product)
@@ -58,7 +58,7 @@ fn low_term(parser: &mut Parser<'_>, depth: u8) -> Result<u16, Fault>
 
 // An operand, and the operators of the level behind it with theirs.
 #[cycle(expression)]
-fn level(parser: &mut Parser<'_>, depth: u8, level: Level) -> Result<u16, Fault>
+fn level(parser: &mut Parser<'_, '_>, depth: u8, level: Level) -> Result<u16, Fault>
     ensures { Follows Expressed (level_reader depth level) parser.old parser.new result }
 {
     let first = operand(parser, depth, level)?;
@@ -67,7 +67,7 @@ fn level(parser: &mut Parser<'_>, depth: u8, level: Level) -> Result<u16, Fault>
 
 // What stands on either side of an operator of the level.
 #[cycle(expression)]
-fn operand(parser: &mut Parser<'_>, depth: u8, level: Level) -> Result<u16, Fault>
+fn operand(parser: &mut Parser<'_, '_>, depth: u8, level: Level) -> Result<u16, Fault>
     ensures { Follows Expressed (operand_reader depth level) parser.old parser.new result }
 {
     match level {
@@ -80,7 +80,7 @@ fn operand(parser: &mut Parser<'_>, depth: u8, level: Level) -> Result<u16, Faul
 
 // The operators of the level that follow, joined to the left.
 #[cycle(expression)]
-fn more(parser: &mut Parser<'_>, depth: u8, level: Level, left: u16) -> Result<u16, Fault>
+fn more(parser: &mut Parser<'_, '_>, depth: u8, level: Level, left: u16) -> Result<u16, Fault>
     ensures { GoesOn Expressed (rest (operand_reader depth level) (brackets_at any_token depth) (level_of level)) left parser.old parser.new result }
 {
     match taken(level, parser.ahead.token) {
@@ -93,7 +93,7 @@ fn more(parser: &mut Parser<'_>, depth: u8, level: Level, left: u16) -> Result<u
 // The operator ahead and its right operand, then those that follow.
 #[cycle(expression)]
 fn operated(
-    parser: &mut Parser<'_>,
+    parser: &mut Parser<'_, '_>,
     depth: u8,
     level: Level,
     left: u16,
@@ -111,7 +111,7 @@ fn operated(
 
 // join-op → join [ expr ], and its right operand, then those that follow.
 #[cycle(expression)]
-fn joined(parser: &mut Parser<'_>, depth: u8, level: Level, left: u16) -> Result<u16, Fault>
+fn joined(parser: &mut Parser<'_, '_>, depth: u8, level: Level, left: u16) -> Result<u16, Fault>
     requires takes { turn.Join ≡ turn_in level (spoken parser.old.ahead.token) }
     ensures { GoesOn Expressed (rest (operand_reader depth level) (brackets_at any_token depth) (level_of level)) left parser.old parser.new result }
 {
@@ -125,7 +125,7 @@ fn joined(parser: &mut Parser<'_>, depth: u8, level: Level, left: u16) -> Result
 
 // factor → unary-op factor | ( expr ) | id | constant
 #[cycle(expression)]
-fn factor(parser: &mut Parser<'_>, depth: u8) -> Result<u16, Fault>
+fn factor(parser: &mut Parser<'_, '_>, depth: u8) -> Result<u16, Fault>
     ensures { Follows Expressed (factors_at any_token depth) parser.old parser.new result }
 {
     match begins(parser.ahead.token) {
@@ -141,7 +141,7 @@ fn factor(parser: &mut Parser<'_>, depth: u8) -> Result<u16, Fault>
 
 // unary-op → - | not
 #[cycle(expression)]
-fn negation(parser: &mut Parser<'_>, depth: u8, sign: Negation) -> Result<u16, Fault>
+fn negation(parser: &mut Parser<'_, '_>, depth: u8, sign: Negation) -> Result<u16, Fault>
     requires token { AtToken parser.old }
     ensures { Follows Expressed (opened depth (negation_behind (negation_of sign))) parser.old parser.new result }
 {
@@ -153,7 +153,7 @@ fn negation(parser: &mut Parser<'_>, depth: u8, sign: Negation) -> Result<u16, F
 
 // The operators with brackets: project, rename, select, exists, all, update, extend.
 #[cycle(expression)]
-fn unary(parser: &mut Parser<'_>, depth: u8, operator: Unary) -> Result<u16, Fault>
+fn unary(parser: &mut Parser<'_, '_>, depth: u8, operator: Unary) -> Result<u16, Fault>
     requires token { AtToken parser.old }
     ensures { Follows Expressed (opened depth (unary_behind (unary_of operator))) parser.old parser.new result }
 {
@@ -169,7 +169,7 @@ fn unary(parser: &mut Parser<'_>, depth: u8, operator: Unary) -> Result<u16, Fau
 
 // What stands in the brackets of an operator.
 #[cycle(expression)]
-fn inside(parser: &mut Parser<'_>, depth: u8, operator: Unary) -> Result<u16, Fault>
+fn inside(parser: &mut Parser<'_, '_>, depth: u8, operator: Unary) -> Result<u16, Fault>
     ensures { Follows (Inside (argument_of (unary_of operator))) (inside_reader depth (argument_of (unary_of operator))) parser.old parser.new result }
 {
     match operator.bracketed() {
@@ -182,7 +182,7 @@ fn inside(parser: &mut Parser<'_>, depth: u8, operator: Unary) -> Result<u16, Fa
 
 // atomic-type id = expr
 #[cycle(expression)]
-fn extended(parser: &mut Parser<'_>, depth: u8) -> Result<u16, Fault>
+fn extended(parser: &mut Parser<'_, '_>, depth: u8) -> Result<u16, Fault>
     ensures { Follows (Inside extend_argument) (inside_reader depth extend_argument) parser.old parser.new result }
 {
     leaf(parser, Leaf::Type)?;
@@ -191,7 +191,7 @@ fn extended(parser: &mut Parser<'_>, depth: u8) -> Result<u16, Fault>
 
 // id = expr
 #[cycle(expression)]
-pub fn assigned(parser: &mut Parser<'_>, depth: u8) -> Result<u16, Fault>
+pub fn assigned(parser: &mut Parser<'_, '_>, depth: u8) -> Result<u16, Fault>
     ensures { Follows Assigned (assigned_reader depth) parser.old parser.new result }
 {
     leaf(parser, Leaf::Name)?;
@@ -201,7 +201,7 @@ pub fn assigned(parser: &mut Parser<'_>, depth: u8) -> Result<u16, Fault>
 
 // The bracket of a join or of a specifier: [ expr ]
 #[cycle(expression)]
-pub fn bracket(parser: &mut Parser<'_>, depth: u8) -> Result<u16, Fault>
+pub fn bracket(parser: &mut Parser<'_, '_>, depth: u8) -> Result<u16, Fault>
     ensures { Follows Expressed (brackets_at any_token depth) parser.old parser.new result }
 {
     if !parser.sees(Wanted::Sign(Sign::LeftBracket)) {
@@ -212,7 +212,7 @@ pub fn bracket(parser: &mut Parser<'_>, depth: u8) -> Result<u16, Fault>
 
 // An expression one deeper, up to the sign that closes it.
 #[cycle(expression)]
-fn enclosed(parser: &mut Parser<'_>, depth: u8, closing: Sign) -> Result<u16, Fault>
+fn enclosed(parser: &mut Parser<'_, '_>, depth: u8, closing: Sign) -> Result<u16, Fault>
     requires token { AtToken parser.old }
     ensures { Follows Expressed (opened depth (enclosed_behind (closing_token closing))) parser.old parser.new result }
 {

@@ -22,7 +22,7 @@ use phrases::sorts::{Leaf, Wanted};
 use words::Sign;
 
 // A table constant has tuples where it begins with a parenthesis, else types.
-fn instance(parser: &Parser<'_>) -> Instance
+fn instance(parser: &Parser<'_, '_>) -> Instance
     ensures { result ≡ instance_of (code_in (sign LeftParenthesis) == code_ahead (spoken parser.now.ahead.token)) }
 {
     if parser.sees(Wanted::Sign(Sign::LeftParenthesis)) {
@@ -33,7 +33,7 @@ fn instance(parser: &Parser<'_>) -> Instance
 }
 
 // The answer is the first of them.
-fn elements(parser: &mut Parser<'_>, instance: Instance) -> Result<u16, Fault>
+fn elements(parser: &mut Parser<'_, '_>, instance: Instance) -> Result<u16, Fault>
     ensures { (n : ℕ) → let listed = listed_of instance in Follows (Held (level_of listed)) (read_level (item_reader n listed) (brackets_at any_token n) (level_of listed)) parser.old parser.new result }
 {
     match instance {
@@ -43,7 +43,7 @@ fn elements(parser: &mut Parser<'_>, instance: Instance) -> Result<u16, Fault>
 }
 
 // table-const → { tuple-list | atomic-type-list }
-pub fn table_const(parser: &mut Parser<'_>, depth: u8) -> Result<u16, Fault>
+pub fn table_const(parser: &mut Parser<'_, '_>, depth: u8) -> Result<u16, Fault>
     requires token { AtToken parser.old }
     ensures { Follows Expressed (table_reader depth) parser.old parser.new result }
 {

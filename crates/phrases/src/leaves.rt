@@ -50,7 +50,7 @@ fn leaf_node(leaf: Leaf, at: Lexeme) -> Option<What>
 }
 
 // The token ahead as a node.
-pub fn leaf(parser: &mut Parser<'_>, leaf: Leaf) -> Result<u16, Fault>
+pub fn leaf(parser: &mut Parser<'_, '_>, leaf: Leaf) -> Result<u16, Fault>
     ensures spare { OnOk result (parser.new.count + worth parser.new + leaf_pays (leaf_of leaf) ≤ parser.old.count + worth parser.old + 1) }
     ensures follows { Follows (Held (leaf_level (leaf_of leaf))) (read_leaf (leaf_of leaf)) parser.old parser.new result }
 {

@@ -26,7 +26,7 @@ pub fn link(nodes: &mut [Node], last: u16, next: u16)
 }
 
 // attr-decl → atomic-type id
-pub fn attr_decl(parser: &mut Parser<'_>) -> Result<u16, Fault>
+pub fn attr_decl(parser: &mut Parser<'_, '_>) -> Result<u16, Fault>
     ensures { Follows (Held attribute_level) read_attribute parser.old parser.new result }
 {
     let at = parser.ahead;
@@ -36,7 +36,7 @@ pub fn attr_decl(parser: &mut Parser<'_>) -> Result<u16, Fault>
 }
 
 // tuple-const → ( atomic-const { , atomic-const } )
-pub fn tuple_const(parser: &mut Parser<'_>) -> Result<u16, Fault>
+pub fn tuple_const(parser: &mut Parser<'_, '_>) -> Result<u16, Fault>
     ensures { (n : ℕ) → Follows (Held tuple_level) (read_tuple (brackets_at any_token n)) parser.old parser.new result }
 {
     let at = parser.ahead;
@@ -48,8 +48,8 @@ pub fn tuple_const(parser: &mut Parser<'_>) -> Result<u16, Fault>
 
 // A list of one element or more, each read by `item`; the answer is its first.
 // Clauses and no `Follows`, for only the answer asks that `item` reads as the grammar does, and only the length that `item` keeps it.
-pub fn list<F: Fn(&mut Parser<'_>) -> Result<u16, Fault>>(
-    parser: &mut Parser<'_>,
+pub fn list<F: Fn(&mut Parser<'_, '_>) -> Result<u16, Fault>>(
+    parser: &mut Parser<'_, '_>,
     item: F,
 ) -> Result<u16, Fault>
     requires callable { F.IsAlwaysCallable item }
@@ -64,7 +64,7 @@ pub fn list<F: Fn(&mut Parser<'_>) -> Result<u16, Fault>>(
 }
 
 // A list of elements of this sort; the answer is its first.
-pub fn list_of(parser: &mut Parser<'_>, listed: Listed) -> Result<u16, Fault>
+pub fn list_of(parser: &mut Parser<'_, '_>, listed: Listed) -> Result<u16, Fault>
     ensures { (n : ℕ) → Follows (Held (level_of listed)) (read_level (item_reader n listed) (brackets_at any_token n) (level_of listed)) parser.old parser.new result }
 {
     match listed {
@@ -77,8 +77,8 @@ pub fn list_of(parser: &mut Parser<'_>, listed: Listed) -> Result<u16, Fault>
 }
 
 // The elements behind a comma each.
-fn more_items<F: Fn(&mut Parser<'_>) -> Result<u16, Fault>>(
-    parser: &mut Parser<'_>,
+fn more_items<F: Fn(&mut Parser<'_, '_>) -> Result<u16, Fault>>(
+    parser: &mut Parser<'_, '_>,
     item: F,
     first: u16,
 ) -> Result<u16, Fault>

@@ -10,10 +10,10 @@ use words::{Lexeme, Scanner};
 // What is left of the text pays for each node that it brings, so that the arena never runs full.
 // Who lent the arena takes it back by moving `nodes` out, and so knows what its entries hold.
 #[derive(Drop)]
-pub struct Parser<'a> {
-    pub scanner: Scanner<'a>,
-    pub ahead: Lexeme<'a>,
-    pub nodes: &'a mut [Node],
+pub struct Parser<'t, 'n> {
+    pub scanner: Scanner<'t>,
+    pub ahead: Lexeme<'t>,
+    pub nodes: &'n mut [Node],
     pub count: u16,
     pub ghost fits: { nodes_limit ≤ length nodes.now },
     pub ghost room: { count + worth_of (spoken ahead.token) (standing scanner) ≤ nodes_limit },

@@ -26,7 +26,7 @@ fn is_wanted(token: Token, wanted: Wanted) -> bool
     }
 }
 
-impl<'a> Parser<'a> {
+impl Parser<'_, '_> {
     // The fault of a rule that the token ahead breaks.
     pub fn refuse(&self, rule: Rule) -> Fault
         ensures { result ≡ fault_at rule (ahead_at self.now) }
