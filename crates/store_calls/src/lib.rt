@@ -6,4 +6,4 @@ pub mod reading;
 pub mod responses;
 
 pub use reading::read_call;
-pub use responses::{Refusal, replies, respond};
+pub use responses::{Refusal, replies, reply_line, respond};

@@ -1,5 +1,5 @@
 // What each line is answered by, and how that is told.
-ghost use Rattle.std.specs.Prelude.{◌≡◌, Some, Err};
+ghost use Rattle.std.specs.Prelude.{◌≡◌, [], ◌∷◌, ◌++◌, Some, Err, IfOk, string_bytes};
 ghost use Rattle.store.specs.Laws.{Lawful};
 ghost use Rattle.store_calls.specs.Told.{response_line, Responds};
 ghost use Rattle.store_calls.specs.declared.responses.Refusal.TheVariants as refusals;
@@ -47,17 +47,23 @@ pub fn respond<S: RowStore>(store: &mut S, line: &str) -> Result<Answer, Refusal
     Ok(perform(store, &call)?)
 }
 
+// The line of reply for what a line is answered by, whether accepted or refused.
+pub fn reply_line(heap: Global, response: Result<Answer, Refusal>) -> Result<String, AllocError>
+    ensures { IfOk result (λ line. string_bytes line ≡ response_line response ++ (10 ∷ [])) }
+{
+    match response {
+        Ok(answer) => format!(in heap; "{answer}\n"),
+        Err(refusal) => format!(in heap; "{refusal}\n"),
+    }
+}
+
 // Makes the calls of all lines, and hands back a line of reply for each. Whatever the lines are, the store stays lawful.
 pub fn replies<S: RowStore>(heap: Global, store: &mut S, text: &str) -> Result<String, AllocError>
     ensures { Lawful (S.RowStore.meaning store.old) (S.RowStore.meaning store.new) }
 {
     let mut told = String::new(heap);
     for line in text.lines() {
-        let response = respond(store, line);
-        let reply = match response {
-            Ok(answer) => format!(in heap; "{answer}\n")?,
-            Err(refusal) => format!(in heap; "{refusal}\n")?,
-        };
+        let reply = reply_line(heap, respond(store, line))?;
         told.push_str(reply.as_str())?;
     }
     Ok(told)
