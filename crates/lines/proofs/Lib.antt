@@ -1,2 +1,3 @@
+mod Digits
 pub mod Puts
 pub mod Loops

@@ -57,6 +57,10 @@ impl<'a> Line<'a> {
         ensures bytes { Adds (signed_decimal value) self.old self.new }
         ensures short { length (signed_decimal value) ≤ value_room }
     {
+        // one digit costs less than the buffer that many are made in
+        if value >= 0 && value < 10 {
+            return self.put(b'0' + value as u8);
+        }
         let mut digits = Buffer::new();
         self.put_all(digits.format(value).as_bytes());
     }
