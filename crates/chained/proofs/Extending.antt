@@ -1,5 +1,5 @@
 -- What the code of `add` has in hand on chains, as plain facts: e is the last entry, and the row has all its columns.
-use Rattle.std.proofs.Common.{◌≡◌, ℕ, ◌+◌, ◌-◌, ◌*◌, ◌<◌, ◌≤◌, Bool, true, List, [], ◌∷◌, ◌++◌, length, get_or, take, drop, set, ℤ, sym, refl, ap, ◌∙◌, ap₂, arith}
+use Rattle.std.proofs.Common.{◌≡◌, ℕ, ◌+◌, ◌-◌, ◌*◌, ◌<◌, ◌≤◌, Bool, true, false, Some, None, Option, List, [], ◌∷◌, ◌++◌, length, get_or, take, drop, set, ℤ, sym, refl, ap, ◌∙◌, ap₂, arith}
 use Rattle.std.proofs.lemmas.List.{set_at, length-take-le}
 use Rattle.fault.specs.Limits.{columns}
 use Rattle.store.specs.Meaning.{Row, has}
@@ -8,8 +8,9 @@ use Rattle.directory.specs.declared.entry.Entry.{Entry}
 use Rattle.directory.proofs.Keeping.{Held}
 use Rattle.directory.proofs.Growing.{last_split}
 use Rattle.directory.proofs.Adding.{row_wide}
-use Rattle.chained.specs.Chains.{walk, step, gather, run, under, put, head_of, joined}
+use Rattle.chained.specs.Chains.{walk, step, gather, run, under, put, searched, head_of, joined}
 use Rattle.chained.proofs.Joining.{under_front}
+use Rattle.chained.proofs.RowLoops.{found_by, missed_by}
 use Rattle.chained.proofs.Keeping.{Kept, held_kept, last_inside, free_inside, run_rest, write_walk, run_add, kept_add}
 
 module _ {c u f : ℕ} {es : List Entry} {cs : List ℤ} {ns : List ℕ} (k : Kept c u f es cs ns) (e : Entry) (row : Row)
@@ -42,6 +43,20 @@ module _ {c u f : ℕ} {es : List Entry} {cs : List ℤ} {ns : List ℕ} (k : Ke
   pub search_is : (r : Bool) → r ≡ has (chunk e.count (length new) (gather cs (walk ns (e.count * length new) e.first))) new → r ≡ has (chunk e.count (length new) (drop (extent front) (run es cs ns))) new
   search_is r r_is =
       r_is ∙ ap (λ x. has (chunk e.count (length new) x) new) (ap (λ m. gather cs (walk ns m e.first)) sizes ∙ run_rest k front e split_last (extent front) refl)
+
+  -- what the search answers, if the cells hold xs and go on as ms say
+  abbrev along : List ℤ → List ℕ → Option ℕ
+  along xs ms = searched (has (chunk e.count (length new) (gather xs (walk ms (e.count * length new) e.first))) new) (step ms (e.count * length new - 1) e.first)
+
+  -- nothing: the run has the row
+  pub search_none : (xs : List ℤ) (ms : List ℕ) → xs ≡ cs → ms ≡ ns → None ≡ along xs ms → true ≡ has (chunk e.count (length new) (drop (extent front) (run es cs ns))) new
+  search_none xs ms xs_is ms_is is = search_is true (found_by _ _ (is ∙ ap₂ along xs_is ms_is))
+
+  -- a cell: the run has no such row, and the chain of the last table ends there
+  pub search_some : (end : ℕ) (xs : List ℤ) (ms : List ℕ) → xs ≡ cs → ms ≡ ns → Some end ≡ along xs ms → (false ≡ has (chunk e.count (length new) (drop (extent front) (run es cs ns))) new) × (end ≡ step ns (extent_of e - 1) e.first)
+  search_some end xs ms xs_is ms_is is =
+      let r = missed_by _ _ end (is ∙ ap₂ along xs_is ms_is) in
+      (search_is false r.0, r.1 ∙ ap (λ n. step ns (n - 1) e.first) sizes)
 
   -- The chain joined to the free one: `ms` are the links then, and the table begins at h.
   module _ (ms : List ℕ) (h : ℕ) (ms_is : ms ≡ joined ns (extent_of e) e.first f) (h_is : h ≡ head_of (extent_of e) e.first f) (fit : e.width ≤ c - u) where

@@ -1,9 +1,9 @@
--- Loops along a chain: comparing a row, searching for one, writing one.
-use Rattle.std.proofs.Common.{◌≡◌, ℕ, suc, ◌+◌, ◌-◌, ◌*◌, ◌<◌, ◌≤◌, Bool, true, false, ◌&&◌, ◌||◌, List, [], ◌∷◌, ◌++◌, length, get_or, take, drop, set, ℤ, pos, sym, refl, ap, ◌∙◌, ap₂, add-mul, one-mul, arith}
+-- Loops along a chain: comparing a row, searching for one, writing one. And what a search answers.
+use Rattle.std.proofs.Common.{◌≡◌, ℕ, suc, ◌+◌, ◌-◌, ◌*◌, ◌<◌, ◌≤◌, Bool, true, false, ◌&&◌, ◌||◌, Some, None, List, [], ◌∷◌, ◌++◌, length, get_or, take, drop, set, ℤ, pos, sym, refl, ap, ◌∙◌, ap₂, add-mul, one-mul, arith}
 use Rattle.std.proofs.lemmas.List.{drop_more, drop_all, take_more, take_at, drop_at, length-take-le}
 use Rattle.store.specs.Meaning.{same_cell, same_row, has}
 use Rattle.directory.specs.Run.{chunk}
-use Rattle.chained.specs.Chains.{walk, step, gather, under, put}
+use Rattle.chained.specs.Chains.{walk, step, gather, under, put, searched}
 use Rattle.chained.proofs.Walks.{walk_next, walk_add, step_add, length_walk, length_gather, gather_append}
 use Rattle.chained.proofs.Writing.{under_append, put_more}
 use Rattle.store.proofs.Rows.{same_cell_refl, same_cell_true}
@@ -72,3 +72,47 @@ pub holds_again : (cs row : List ℤ) (ns : List ℕ) (count k w at at' u : ℕ)
 holds_again cs row ns count k w at at' u r whole l is miss next inv un =
     let m : ℕ = count - (k + 1) in
     (ap (λ p. has (chunk m w (gather cs (walk ns (m * w) p))) row) next ∙ sym (holds_step cs row ns count k w at l ∙ ap (λ b. b || has (chunk m w (gather cs (walk ns (m * w) (step ns w at)))) row) (sym is ∙ miss)) ∙ inv, ap (λ p. under u (walk ns (m * w) p)) next ∙ (holds_under u ns count k w at l un).1)
+
+-- no row is left to be equal
+pub holds_end : (cs row : List ℤ) (ns : List ℕ) (count k w at : ℕ) → count ≤ k → has (chunk (count - k) w (gather cs (walk ns ((count - k) * w) at))) row ≡ false
+holds_end cs row ns count k w at l =
+    let z : count - k ≡ 0 = omega arith in
+    ap (λ n. has (chunk n w (gather cs (walk ns (n * w) at))) row) z
+
+-- the last cell of row k, and where the chain goes on after it
+pub row_end : (ns : List ℕ) (k w at last from : ℕ) → 1 ≤ w → at ≡ step ns (k * w) from → last ≡ step ns (w - 1) at → (last ≡ step ns ((k + 1) * w - 1) from) × (get_or ns last 0 ≡ step ns w at) × (get_or ns last 0 ≡ step ns ((k + 1) * w) from)
+row_end ns k w at last from wide at_is last_is =
+    let whole : (k + 1) * w ≡ k * w + w = add-mul k 1 w ∙ ap (λ n. k * w + n) (one-mul w) in
+    let short : (k + 1) * w - 1 ≡ k * w + (w - 1) = omega (arith, whole, wide) in
+    let more : w ≡ (w - 1) + 1 = omega (arith, wide) in
+    let next : get_or ns last 0 ≡ step ns w at = ap (λ i. get_or ns i 0) last_is ∙ sym (ap (λ n. step ns n at) more ∙ step_add ns (w - 1) 1 at) in
+    (last_is ∙ ap (step ns (w - 1)) at_is ∙ sym (ap (λ n. step ns n from) short ∙ step_add ns (k * w) (w - 1) from), next, next ∙ ap (step ns w) at_is ∙ sym (ap (λ n. step ns n from) whole ∙ step_add ns (k * w) w from))
+
+-- What a search answers.
+
+-- the row stood there
+pub search_found : (b : Bool) (last : ℕ) → b ≡ true → None ≡ searched b last
+search_found b last is = ap (λ x. searched x last) (sym is)
+
+-- it did not
+pub search_missed : (b : Bool) (last at : ℕ) → b ≡ false → at ≡ last → Some at ≡ searched b last
+search_missed b last at is at_is = ap Some at_is ∙ ap (λ x. searched x last) (sym is)
+
+-- nothing answered: the row stands there
+pub found_by : (b : Bool) (last : ℕ) → None ≡ searched b last → true ≡ b
+found_by true last is = refl
+found_by false last is = absurd (clash is)
+  where
+    clash : None ≡ Some last → ⊥
+    clash e = cc
+
+-- a cell answered: it does not, and this is the last cell
+pub missed_by : (b : Bool) (last at : ℕ) → Some at ≡ searched b last → (false ≡ b) × (at ≡ last)
+missed_by true last at is = absurd (clash is)
+  where
+    clash : Some at ≡ None → ⊥
+    clash e = cc
+missed_by false last at is = (refl, same is)
+  where
+    same : Some at ≡ Some last → at ≡ last
+    same e = cc

@@ -1,5 +1,5 @@
 -- How chained cells stand for a store: each table's cells are those on its chain, and the others are on the free chain.
-use Rattle.std.specs.Prelude.{◌≡◌, ℕ, zero, suc, Bool, true, not, ◌&&◌, List, [], ◌∷◌, ◌++◌, map, length, ℤ, pos, ◌==◌, nat_lt, slice_index, slice_index_or, slice_set}
+use Rattle.std.specs.Prelude.{◌≡◌, ℕ, zero, suc, Bool, true, false, not, ◌&&◌, Option, None, Some, List, [], ◌∷◌, ◌++◌, map, length, ℤ, pos, ◌==◌, nat_lt, slice_index, slice_index_or, slice_set}
 use Rattle.store.specs.Meaning.{Store}
 use Rattle.directory.specs.Run.{laid, extent_of}
 use Rattle.chained.specs.declared.links.Link.{Link}
@@ -61,6 +61,11 @@ under n (x ∷ xs) = nat_lt x n && under n xs
 -- a chain of n cells that begins at h lies in the cells
 abbrev pub Reaches : List Link → ℕ → ℕ → Type 0
 Reaches ls n h = under (length ls) (walk (nexts ls) n h) ≡ true
+
+-- what a search answers: nothing if it found the row, else the last cell that it went over
+abbrev pub searched : Bool → ℕ → Option ℕ
+searched true last = None
+searched false last = Some last
 
 -- xs written into the cells at the places is, one by one
 abbrev pub put : List ℤ → List ℕ → List ℤ → List ℤ

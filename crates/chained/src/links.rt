@@ -1,5 +1,5 @@
 // Chains of cells: how they are made, followed and joined. A chain has no end mark; whoever follows it knows how long it is.
-ghost use Rattle.std.specs.Prelude.{◌≡◌, ◌≤◌, true, map, pos, length, IfOk};
+ghost use Rattle.std.specs.Prelude.{◌≡◌, ◌≤◌, ◌-◌, true, map, pos, length, IfOk};
 ghost use Rattle.std.specs.List.{range_with_len};
 ghost use Rattle.fault.specs.Limits.{cells as cell_limit};
 ghost use Rattle.chained.specs.Chains.{nexts, values, walk, step, head_of, joined, Reaches};
@@ -42,10 +42,21 @@ pub(crate) fn join(links: &mut [Link], first: u16, size: usize, next: u16) -> u1
     ensures nexts { nexts links.new ≡ joined (nexts links.old) size first next }
     ensures values { values links.new ≡ values links.old }
 {
+    let last = after(links, first, size.saturating_sub(1));
+    join_last(links, first, size, last, next)
+}
+
+// The same, by whoever knows that the chain's last cell is `last`.
+pub(crate) fn join_last(links: &mut [Link], first: u16, size: usize, last: u16, next: u16) -> u16
+    requires inside { Reaches links.old size first }
+    requires last { last ≡ step (nexts links.old) (size - 1) first }
+    ensures head { result ≡ head_of size first next }
+    ensures nexts { nexts links.new ≡ joined (nexts links.old) size first next }
+    ensures values { values links.new ≡ values links.old }
+{
     if size == 0 {
         return next;
     }
-    let last = after(links, first, size - 1);
     links[last as usize].next = next;
     first
 }

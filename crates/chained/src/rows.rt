@@ -1,8 +1,8 @@
 // Rows along a chain: comparing one, searching for one, writing one. The search is a function of its own: another one goes in here.
-ghost use Rattle.std.specs.Prelude.{◌≡◌, ◌*◌, true, length};
+ghost use Rattle.std.specs.Prelude.{◌≡◌, ◌≤◌, ◌-◌, ◌*◌, true, length};
 ghost use Rattle.store.specs.Meaning.{same_row, has};
 ghost use Rattle.directory.specs.Run.{chunk};
-ghost use Rattle.chained.specs.Chains.{nexts, values, walk, step, gather, put, Reaches};
+ghost use Rattle.chained.specs.Chains.{nexts, values, walk, step, gather, put, searched, Reaches};
 
 use crate::links::{Link, after};
 
@@ -22,19 +22,22 @@ fn same_row(links: &[Link], from: u16, row: &[i64]) -> bool
     true
 }
 
-// Whether one of the `count` rows that begin at `from` is `row`.
-pub(crate) fn has_row(links: &[Link], from: u16, count: usize, row: &[i64]) -> bool
-    requires { Reaches links.now (count * length row.now) from }
-    ensures { result ≡ has (chunk count (length row.now) (gather (values links.now) (walk (nexts links.now) (count * length row.now) from))) row.now }
+// Searches the `count` rows that begin at `from`. None if one of them is `row`; else their last cell (`from` if there are none), so that joining follows the chain no second time.
+pub(crate) fn search(links: &[Link], from: u16, count: usize, row: &[i64]) -> Option<u16>
+    requires wide { 1 ≤ length row.now }
+    requires inside { Reaches links.now (count * length row.now) from }
+    ensures { result ≡ searched (has (chunk count (length row.now) (gather (values links.now) (walk (nexts links.now) (count * length row.now) from))) row.now) (step (nexts links.now) (count * length row.now - 1) from) }
 {
+    let mut last = from;
     let mut at = from;
     for _ in 0..count {
         if same_row(links, at, row) {
-            return true;
+            return None;
         }
-        at = after(links, at, row.len());
+        last = after(links, at, row.len() - 1);
+        at = links[last as usize].next;
     }
-    false
+    Some(last)
 }
 
 // Writes `row` into the cells from `from` on, and says where the chain goes on.

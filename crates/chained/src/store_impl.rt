@@ -6,8 +6,8 @@ ghost use Rattle.directory.specs.Run.{extent, decode};
 ghost use Rattle.chained.specs.Chains.{nexts, values, run, chains, chained, distinct, under};
 ghost use Rattle.chained.specs.ChainedSound.{chained_sound};
 
-use crate::links::{Link, after, free_chain, join};
-use crate::rows::{has_row, write_row};
+use crate::links::{Link, after, free_chain, join, join_last};
+use crate::rows::{search, write_row};
 use directory::{Directory, Entry};
 use fault::limits::{CELLS, COLUMNS};
 use fault::{Fault, Rule};
@@ -104,17 +104,18 @@ impl RowStore for Chained {
         let last = self.tables.last()?;
         let width = last.width as usize;
         let new = &row[..width];
-        if has_row(&self.links, last.first, last.count as usize, new) {
+        let Some(end) = search(&self.links, last.first, last.count as usize, new) else {
             return Ok(());
-        }
+        };
         if last.width > self.capacity - self.used {
             return Err(refuse(Rule::NoCellsLeft));
         }
         // the table goes on in the free cells, and those after the row are free
-        let first = join(
+        let first = join_last(
             self.links.as_mut_slice(),
             last.first,
             last.cells(),
+            end,
             self.free,
         );
         self.free = write_row(self.links.as_mut_slice(), self.free, new);

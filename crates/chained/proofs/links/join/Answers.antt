@@ -1,23 +1,6 @@
-use Rattle.std.proofs.Common.{◌-◌, refl, ◌∙◌, arith}
-use Rattle.chained.specs.Chains.{nexts}
-use Rattle.chained.proofs.Projections.{nexts_set, values_same}
-use Rattle.chained.proofs.Walks.{step_under}
-use Rattle.chained.proofs.Joining.{join_none, join_some, under_front}
+use Rattle.std.proofs.Common.{arith}
+use Rattle.chained.proofs.Joining.{under_front}
 use Rattle.chained.proofs.links.join.Goals as goal
 
-pub returns-then-size-eq0 : goal.returns-then-size-eq0
-returns-then-size-eq0 c =
-    let r = join_none (nexts c.args.links.now) c.args.size c.args.first c.args.next (omega arith) in
-    record { head = r.0; nexts = r.1; values = refl }
-
 pub after-last-requires : goal.after-last-requires
-after-last-requires c = under_front _ _ (c.args.size - 1) c.args.size c.args.first (omega arith) c.requires
-
-pub bounds-links-last : goal.bounds-links-last
-bounds-links-last c =
-    omega (arith, c.after-last.ensures, step_under _ (nexts c.args.links.now) c.args.size (c.args.size - 1) c.args.first (omega arith) c.requires)
-
-pub returns : goal.returns
-returns c =
-    let r = join_some (nexts c.args.links.now) c.args.size c.args.first c.args.next c.after-last.result (omega arith) c.after-last.ensures in
-    record { head = r.0; nexts = nexts_set c.args.links.now _ _ ∙ r.1; values = values_same c.args.links.now _ _ refl }
+after-last-requires c = under_front _ _ c.saturating_sub.result c.args.size c.args.first (omega arith) c.requires
