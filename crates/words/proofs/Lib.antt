@@ -1,6 +1,7 @@
 pub mod Counts
 pub mod Cuts
 pub mod Fronts
+pub mod Lengths
 pub mod Names
 pub mod Readings
 pub mod Scans

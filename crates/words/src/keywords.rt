@@ -28,34 +28,49 @@ impl<'a> From<Keyword> for Token<'a> {
     }
 }
 
-// Each word with its spelling. A `match` on the spellings would compare byte by byte, and its proof have a case for each byte of each word.
-const SPELLINGS: [(&[u8], Keyword); 26] = [
-    (b"program", Keyword::Word(Word::Program)),
-    (b"end", Keyword::Word(Word::End)),
-    (b"table", Keyword::Word(Word::Table)),
+// Each word with its spelling, the words of a length in a table of their own, so that a name is compared with those of its length alone. A `match` on the spellings would compare byte by byte, and its proof have a case for each byte of each word.
+const WORDS_OF_TWO: [(&[u8], Keyword); 3] = [
     (b"if", Keyword::Word(Word::If)),
+    (b"do", Keyword::Word(Word::Do)),
+    (b"or", Keyword::Logic(Logic::Or)),
+];
+
+const WORDS_OF_THREE: [(&[u8], Keyword); 4] = [
+    (b"end", Keyword::Word(Word::End)),
+    (b"not", Keyword::Word(Word::Not)),
+    (b"all", Keyword::Word(Word::All)),
+    (b"and", Keyword::Logic(Logic::And)),
+];
+
+const WORDS_OF_FOUR: [(&[u8], Keyword); 5] = [
     (b"then", Keyword::Word(Word::Then)),
     (b"else", Keyword::Word(Word::Else)),
-    (b"while", Keyword::Word(Word::While)),
-    (b"do", Keyword::Word(Word::Do)),
     (b"read", Keyword::Word(Word::Read)),
-    (b"write", Keyword::Word(Word::Write)),
     (b"join", Keyword::Word(Word::Join)),
-    (b"not", Keyword::Word(Word::Not)),
-    (b"project", Keyword::Word(Word::Project)),
+    (b"true", Keyword::Truth(true)),
+];
+
+const WORDS_OF_FIVE: [(&[u8], Keyword); 4] = [
+    (b"table", Keyword::Word(Word::Table)),
+    (b"while", Keyword::Word(Word::While)),
+    (b"write", Keyword::Word(Word::Write)),
+    (b"false", Keyword::Truth(false)),
+];
+
+const WORDS_OF_SIX: [(&[u8], Keyword); 6] = [
     (b"select", Keyword::Word(Word::Select)),
     (b"exists", Keyword::Word(Word::Exists)),
-    (b"all", Keyword::Word(Word::All)),
     (b"update", Keyword::Word(Word::Update)),
     (b"extend", Keyword::Word(Word::Extend)),
     (b"rename", Keyword::Word(Word::Rename)),
-    (b"integer", Keyword::Domain(Domain::Integer)),
     (b"string", Keyword::Domain(Domain::String)),
+];
+
+const WORDS_OF_SEVEN: [(&[u8], Keyword); 4] = [
+    (b"program", Keyword::Word(Word::Program)),
+    (b"project", Keyword::Word(Word::Project)),
+    (b"integer", Keyword::Domain(Domain::Integer)),
     (b"boolean", Keyword::Domain(Domain::Boolean)),
-    (b"and", Keyword::Logic(Logic::And)),
-    (b"or", Keyword::Logic(Logic::Or)),
-    (b"true", Keyword::Truth(true)),
-    (b"false", Keyword::Truth(false)),
 ];
 
 // The first of these words that is spelt so.
@@ -74,5 +89,13 @@ fn spelt_among(words: &[(&[u8], Keyword)], bytes: &[u8]) -> Option<Keyword>
 pub fn keyword_of(bytes: &[u8]) -> Option<Keyword>
     ensures { result ≡ keyword_of bytes.now }
 {
-    spelt_among(&SPELLINGS, bytes)
+    match bytes.len() {
+        2 => spelt_among(&WORDS_OF_TWO, bytes),
+        3 => spelt_among(&WORDS_OF_THREE, bytes),
+        4 => spelt_among(&WORDS_OF_FOUR, bytes),
+        5 => spelt_among(&WORDS_OF_FIVE, bytes),
+        6 => spelt_among(&WORDS_OF_SIX, bytes),
+        7 => spelt_among(&WORDS_OF_SEVEN, bytes),
+        _ => None,
+    }
 }
