@@ -1,4 +1,5 @@
 pub mod Chunks
+pub mod Narrow
 pub mod Beginnings
 pub mod Fields
 pub mod Turning

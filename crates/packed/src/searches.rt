@@ -3,10 +3,14 @@ ghost use Rattle.std.specs.Prelude.{◌≡◌, ◌+◌, ◌*◌, ◌≤◌, leng
 ghost use Rattle.store.specs.Meaning.{same_row, has};
 ghost use Rattle.directory.specs.Run.{chunk};
 
+// Whether the cells are the row: by the first cell, in which most rows differ, and then by the others.
 fn same_row(cells: &[i64], row: &[i64]) -> bool
     ensures { result ≡ same_row cells.now row.now }
 {
-    cells == row
+    match (cells, row) {
+        ([first, others @ ..], [wanted, rest @ ..]) => first == wanted && others == rest,
+        _ => cells == row,
+    }
 }
 
 // Whether one of the `count` rows that begin at `from` is `row`.
@@ -20,5 +24,15 @@ pub(crate) fn has_row(cells: &[i64], from: usize, count: usize, row: &[i64]) -> 
         return count > 0;
     }
     let rows = &cells[from..from + count * width];
+    // narrow rows as arrays, so that each comparison has a fixed number of cells and no loop of its own
+    if let [only] = row {
+        return rows.contains(only);
+    }
+    if let [first, second] = row {
+        return rows.as_chunks::<2>().0.contains(&[*first, *second]);
+    }
+    if let [first, second, third] = row {
+        return rows.as_chunks::<3>().0.contains(&[*first, *second, *third]);
+    }
     rows.chunks_exact(width).any(|each| same_row(each, row))
 }
