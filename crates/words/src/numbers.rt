@@ -7,13 +7,12 @@ ghost use Rattle.words.specs.Numbers.{value_within};
 fn appended(value: u64, digit: u8, limit: u64) -> Option<u64>
     ensures { result ≡ (if nat_le (10 * value + (digit - 48)) limit then Some (10 * value + (digit - 48)) else None) }
 {
-    let next = value
-        .checked_mul(10)?
-        .checked_add(digit.saturating_sub(b'0') as u64)?;
+    let next = 10 * u128::from(value) + u128::from(digit.saturating_sub(b'0'));
+    let limit = u128::from(limit);
     if next > limit {
         return None;
     }
-    Some(next)
+    Some(next as u64)
 }
 
 // The value of the digits where it is at most the limit, however many zeros stand in front.

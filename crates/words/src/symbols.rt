@@ -83,7 +83,10 @@ pub fn take_symbol<'a>(text: &'a [u8]) -> Option<Signed<'a>>
         }
     }
     match text {
-        [a, rest @ ..] => single(*a).map(|symbol| Signed { symbol, rest }),
+        [a, rest @ ..] => {
+            let symbol = single(*a)?;
+            Some(Signed { symbol, rest })
+        }
         [] => None,
     }
 }
