@@ -1,5 +1,5 @@
 -- Rows that are compared by their first cell, and narrow rows that are compared as arrays.
-use Rattle.std.proofs.Common.{◌≡◌, ℕ, zero, suc, ◌-◌, ◌*◌, ◌/◌, ◌<◌, Bool, true, false, ◌&&◌, ◌||◌, int_eq, List, [], ◌∷◌, length, take, drop, ℤ, pos, slice_index_or, refl, sym, ap, ap₂, ◌∙◌, arith}
+use Rattle.std.proofs.Common.{◌≡◌, ℕ, zero, suc, ◌+◌, ◌-◌, ◌*◌, ◌/◌, ◌<◌, Bool, true, false, ◌&&◌, ◌||◌, int_eq, List, [], ◌∷◌, length, take, drop, ℤ, pos, slice_index_or, drop-cons, refl, sym, ap, ap₂, ◌∙◌, arith}
 use Rattle.std.specs.Cmp.Lexicographic.{pointwise}
 use Rattle.std.proofs.Math.Nat.{mul-div_cancel}
 use Rattle.std.specs.List.{list_any}
@@ -9,7 +9,7 @@ use Rattle.std.proofs.lemmas.Slice.Eq.{slice_eq-Decides}
 use Rattle.std.proofs.lemmas.Bool.Decides.{same_from_decides, Decides-int_eq}
 use Rattle.store.specs.Meaning.{Row, same_cell, same_row, has}
 use Rattle.directory.specs.Run.{chunk}
-use Rattle.store.proofs.Rows.{same_cell_refl, same_row_decides}
+use Rattle.store.proofs.Rows.{same_cell_refl, same_cell_true, same_row_decides}
 
 -- a comparison of slices is the test of the meaning
 pub same_slices : (a b : Row) (r : Bool) → r ≡ pointwise int_eq a b → r ≡ same_row a b
@@ -25,21 +25,39 @@ same_by_first (x ∷ xs) (y ∷ ys) r la lb e h =
     same_slices xs ys r (h ∙ ap₂ (pointwise int_eq) others wanted) ∙ ap (λ t. t && same_row xs ys) (sym (same_cell_refl x) ∙ ap (same_cell x) e)
 
 -- a cell is among the cells where the row that it makes is among the rows of one cell
-pub has_single : (cs : List ℤ) (x : ℤ) (count : ℕ) → length cs ≡ count → list_any (λ y. int_eq y x) cs ≡ has (chunk count 1 cs) (x ∷ [])
+pub has_single : (cs : List ℤ) (x : ℤ) (count : ℕ) → length cs ≡ count → list_any (λ y. same_cell y x) cs ≡ has (chunk count 1 cs) (x ∷ [])
 has_single [] x zero e = refl
 has_single [] x (suc n) e = absurd (omega (arith, e))
 has_single (y ∷ ys) x zero e = absurd (omega (arith, e))
-has_single (y ∷ ys) x (suc n) e = ap₂ ◌||◌ (same_slices (y ∷ []) (x ∷ []) _ (single (int_eq y x))) (has_single ys x n (omega (arith, e)))
+has_single (y ∷ ys) x (suc n) e = ap₂ ◌||◌ (single (same_cell y x)) (has_single ys x n (omega (arith, e)))
   where
     single : (b : Bool) → b ≡ (b && true)
     single true = refl
     single false = refl
 
 -- the same of a row that has one cell
-pub has_only : (row : Row) (cs : List ℤ) (count : ℕ) → length row ≡ 1 → length cs ≡ count → list_any (λ y. int_eq y (slice_index_or row 0 (pos 0))) cs ≡ has (chunk count (length row) cs) row
+pub has_only : (row : Row) (cs : List ℤ) (count : ℕ) → length row ≡ 1 → length cs ≡ count → list_any (λ y. same_cell y (slice_index_or row 0 (pos 0))) cs ≡ has (chunk count (length row) cs) row
 has_only [] cs count w e = absurd (omega (arith, w))
 has_only (x ∷ []) cs count w e = has_single cs x count e
 has_only (x ∷ y ∷ r) cs count w e = absurd (omega (arith, w))
+
+-- the search from cell i on: that cell, or one of those after it
+cell_step : (cs : List ℤ) (x : ℤ) (i : ℕ) → i < length cs → list_any (λ y. same_cell y x) (drop i cs) ≡ (same_cell (slice_index_or cs i (pos 0)) x || list_any (λ y. same_cell y x) (drop (i + 1) cs))
+cell_step cs x i l =
+    let next : suc i ≡ i + 1 = omega arith in
+    ap (list_any (λ y. same_cell y x)) (drop-cons cs i (pos 0) l) ∙ ap (λ n. same_cell (slice_index_or cs i (pos 0)) x || list_any (λ y. same_cell y x) (drop n cs)) next
+
+-- the cell that is sought, found at i
+pub cell_found : (cs : List ℤ) (x : ℤ) (i : ℕ) → i < length cs → slice_index_or cs i (pos 0) ≡ x → list_any (λ y. same_cell y x) (drop i cs) ≡ true
+cell_found cs x i l e = cell_step cs x i l ∙ ap (λ b. b || list_any (λ y. same_cell y x) (drop (i + 1) cs)) (ap (λ y. same_cell y x) e ∙ same_cell_refl x)
+
+-- it is not the cell at i
+pub cell_missed : (cs : List ℤ) (x : ℤ) (i : ℕ) → i < length cs → (slice_index_or cs i (pos 0) ≡ x → ⊥) → list_any (λ y. same_cell y x) (drop (i + 1) cs) ≡ list_any (λ y. same_cell y x) (drop i cs)
+cell_missed cs x i l other = sym (cell_step cs x i l ∙ ap (λ b. b || list_any (λ y. same_cell y x) (drop (i + 1) cs)) (off (same_cell (slice_index_or cs i (pos 0)) x) refl))
+  where
+    off : (b : Bool) → same_cell (slice_index_or cs i (pos 0)) x ≡ b → same_cell (slice_index_or cs i (pos 0)) x ≡ false
+    off true h = absurd (other (same_cell_true (slice_index_or cs i (pos 0)) x h))
+    off false h = h
 
 -- the same of a comparison of whole rows
 pub has_any : (rows : List Row) (row : Row) → list_any (λ y. pointwise int_eq y row) rows ≡ has rows row

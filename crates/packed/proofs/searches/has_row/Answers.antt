@@ -23,7 +23,7 @@ returns-in-len1 c =
     let sized : n ≡ c.args.count * w = omega arith in
     let long : length rows ≡ c.args.count * w = length-take-le n whole (omega (arith, c.requires, length-drop c.args.from c.args.cells.now)) ∙ sized in
     let front : has (chunk c.args.count w rows) row ≡ has (chunk c.args.count w whole) row = ap (λ x. has x row) (sym (chunk_front c.args.count w rows (drop n whole) (omega (arith, long)))) ∙ ap (λ x. has (chunk c.args.count w x) row) (take-append-drop n whole) in
-    c.contains.ensures.value ∙ has_only row rows c.args.count one (long ∙ ap (λ k. c.args.count * k) one ∙ omega arith) ∙ front
+    c.has_cell.ensures ∙ has_only row rows c.args.count one (long ∙ ap (λ k. c.args.count * k) one ∙ omega arith) ∙ front
 
 pub returns-in-len2 : goal.returns-in-len2
 returns-in-len2 c =
@@ -41,7 +41,7 @@ returns-in-len2 c =
     let y : ℤ = slice_index_or row 1 (pos 0) in
     let fy : SFits w64 y = search rules in
     let same = ap₂ ◌∷◌ (to_z-of_z w64 x fx) (ap (λ a. a ∷ []) (to_z-of_z w64 y fy)) ∙ two_cells row wide in
-    has_array rows row _ 2 c.args.count (length rows / 2) _ c.contains-in-len2.result (omega arith) (long ∙ ap (λ k. c.args.count * k) wide) refl c.as_chunks.ensures.front same c.contains-in-len2.ensures.value ∙ ap (λ k. has (chunk c.args.count k rows) row) (sym wide) ∙ front
+    has_array rows row _ 2 c.args.count (length rows / 2) _ c.contains.result (omega arith) (long ∙ ap (λ k. c.args.count * k) wide) refl c.as_chunks.ensures.front same c.contains.ensures.value ∙ ap (λ k. has (chunk c.args.count k rows) row) (sym wide) ∙ front
 
 pub returns-in-len3 : goal.returns-in-len3
 returns-in-len3 c =
