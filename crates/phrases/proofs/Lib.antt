@@ -3,3 +3,4 @@ pub mod Steps
 pub mod LeafNodes
 pub mod Puts
 pub mod ListSteps
+pub mod ListCalls

@@ -4,6 +4,7 @@
 
 pub mod leaves;
 pub mod lists;
+pub mod one_lifetime;
 pub mod parsers;
 pub mod sorts;
 pub mod stepping;
