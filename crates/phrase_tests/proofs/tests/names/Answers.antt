@@ -3,7 +3,7 @@ use Rattle.std.proofs.Common.{◌≤◌, length, ap, arith, rules}
 use Rattle.fault.specs.Limits.{script_bytes}
 use Rattle.words.specs.Sizes.{text_bytes}
 use Rattle.phrases.proofs.Steps.{heard_pays}
-use Rattle.list_tests.proofs.tests.names.Goals as goal
+use Rattle.phrase_tests.proofs.tests.names.Goals as goal
 
 pub invariant_of-parser : goal.invariant_of-parser
 invariant_of-parser c =

@@ -1,6 +1,9 @@
 // Examples of lists whose reader takes only parsers of one lifetime, over an arena that the test lends.
 #![tactic(auto)]
 
+ghost use Rattle.std.specs.Prelude.{OnOk};
+ghost use Rattle.phrases.specs.States.{SameArena, Numbers};
+
 #[cfg(test)]
 mod tests {
     use fault::limits::NODES;
@@ -14,6 +17,14 @@ mod tests {
     use tree::nodes::EMPTY;
     use tree::{Node, What};
     use words::{Scanner, Span, Text};
+
+    // A reader for parsers of one lifetime alone: `lists::list` does not take it.
+    fn name<'a>(parser: &mut Parser<'a, 'a>) -> Result<u16, Fault>
+        ensures lent { SameArena parser.old parser.new }
+        ensures numbers { OnOk result (Numbers parser.old parser.new) }
+    {
+        leaf(parser, Leaf::Name)
+    }
 
     // What a list of the names that a text begins with answers, and the first four entries of the arena then.
     fn names(heap: Global, bytes: &[u8]) -> Result<(Result<u16, Fault>, [Node; 4]), Fail> {
@@ -29,7 +40,7 @@ mod tests {
             nodes: &mut nodes,
             count: 0,
         };
-        let answer = list(&mut parser, |parser| leaf(parser, Leaf::Name));
+        let answer = list(&mut parser, name);
         Ok((answer, [nodes[0], nodes[1], nodes[2], nodes[3]]))
     }
 
